@@ -4,7 +4,7 @@ use Rattle.std.proofs.Common.{Bool, true, false, cond}
 use Rattle.std.specs.Prelude.{◌==◌}
 use Rattle.tlsf_heap.specs.Effects.{Writes}
 use Rattle.tlsf_heap.specs.Kept.{IsAsBefore}
-use Rattle.tlsf_heap.specs.WordsInUse.{Peaks, peak_moved}
+use Rattle.tlsf_heap.specs.WordsInUse.{peak_of, peak_moved}
 use Rattle.tlsf_heap.specs.declared.refusal.Refusal.TheVariants.{NoFit, Worn, Foreign, Stale, Range, NoRoom}
 use Rattle.tlsf_heap.specs.Steps.{Put}
 use Rattle.tlsf_heap.proofs.lemmas.laws.WordsInUse.{words_set}
@@ -26,7 +26,7 @@ left old new r len why same =
     ∙ ap (λ (m : ℕ). counts_of old.heap m (noted_if r len why)) same.most_in_use
     ∙ refusal old.heap old.most_in_use r len why
 
-pub requested : (old new : Shown) (r : Refused) (answer : Result Name Refusal) (len : ℕ) → Peaks old new → OnErr answer (IsAsBefore old new)
+pub requested : (old new : Shown) (r : Refused) (answer : Result Name Refusal) (len : ℕ) → new.most_in_use ≡ peak_of old new → OnErr answer (IsAsBefore old new)
     → counts_of new.heap new.most_in_use (noted r answer len) ≡ counted_request (counts_of old.heap old.most_in_use r) answer len new.heap
 requested old new r (Ok given) len peak same = ap (λ (m : ℕ). counts_of new.heap m r) peak
 requested old new r (Err why) len peak same = left old new r len why same

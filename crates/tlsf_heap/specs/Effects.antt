@@ -1,5 +1,7 @@
 -- The effect of one call of a heap, told once: each layer above says it of its own view.
 use Rattle.std.specs.Prelude.{◌≡◌, ℕ, ◌+◌, ◌*◌, ◌/◌, ◌%◌, ◌<◌, ◌≤◌, ◌↔◌, List, [], Bool, Option, Result, length, min, IfOk, IfSome, MatchOption, MatchResult, Ok, Err, OnOk, OnErr, IsOk, IsErrOf, IsTrue}
+use Rattle.std.specs.Borrow.{Bor, MutBor}
+use Rattle.std.specs.Fn.{Once}
 use Rattle.std.specs.Result.{result_unwrap_or}
 use denote.RawPtr.{Ptr}
 use Rattle.tlsf_heap.specs.Aligned.{words_aligned, words_from, AnswersAligned, AnswersFrom}
@@ -13,7 +15,7 @@ use Rattle.tlsf_heap.specs.Footprint.{LeavesLive, LeavesPayloads}
 use Rattle.tlsf_heap.specs.Given.{payload_words_given, payload_words_left}
 use Rattle.tlsf_heap.specs.GoodFit.{fits}
 use Rattle.tlsf_heap.specs.Image.{Image}
-use Rattle.tlsf_heap.specs.InPlace.{payload_of, words_grown, IsPayloadCheck}
+use Rattle.tlsf_heap.specs.InPlace.{payload_of, words_grown, Alters, Inspects, IsPayloadCheck}
 use Rattle.tlsf_heap.specs.Laws.{IsLive}
 use Rattle.tlsf_heap.specs.Moved.{payload_words_moved, resized_or_moved}
 use Rattle.tlsf_heap.specs.Placed.{placed_at}
@@ -201,6 +203,25 @@ pub record Reads (most : ℕ) (old new : Seen) (name : Name) (at : ℕ) (bytes f
   pub rise : old.touches ≤ new.touches
   pub leaves : LeavesPayloads old.heap.blocks name.at old.touched new.touched
   pub refused : OnErr answer (LeavesLive old.heap.blocks old.touched new.touched)
+  pub forged : FollowsNoForgery old new name
+
+-- a function f changes the payload of a name's block where it stands. The heap is then as a write of what f leaves makes it. A refusal
+-- leaves the heap
+pub record AltersInPlace {F R E : Type 0} (g : Once F (MutBor (List ℕ) × Unit {0}) (R × (MutBor (List ℕ) × Unit {0}))) (f : F) (old new : Seen) (name : Name) (answer : Result R E) : Type 0 where
+  pub altered : IfOk answer (λ r. Alters g f old.heap name r new.heap)
+  pub unchanged : OnErr answer (new.heap ≡ old.heap)
+  pub touches : new.touches ≤ old.touches + 4
+  pub rise : old.touches ≤ new.touches
+  pub leaves : LeavesLive old.heap.blocks old.touched new.touched
+  pub forged : FollowsNoForgery old new name
+
+-- a function f is shown that payload, and the heap stays
+pub record InspectsInPlace {F R E : Type 0} (g : Once F (Bor (List ℕ) × Unit {0}) R) (f : F) (old new : Seen) (name : Name) (answer : Result R E) : Type 0 where
+  pub inspected : IfOk answer (λ r. Inspects g f old.heap name r)
+  pub heap : new.heap ≡ old.heap
+  pub touches : new.touches ≤ old.touches + 4
+  pub rise : old.touches ≤ new.touches
+  pub leaves : LeavesLive old.heap.blocks old.touched new.touched
   pub forged : FollowsNoForgery old new name
 
 -- a question whether a live block has a name

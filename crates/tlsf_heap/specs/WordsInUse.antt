@@ -1,5 +1,5 @@
 -- The words in use: those of the live blocks, their headers with them.
-use Rattle.std.specs.Prelude.{◌≡◌, ℕ, ◌+◌, ◌==◌, List, Option, Some, None, Result, Ok, Err, max, if◌then◌else◌}
+use Rattle.std.specs.Prelude.{ℕ, ◌+◌, ◌==◌, List, Option, Some, None, Result, Ok, Err, max, if◌then◌else◌}
 use Rattle.tlsf_heap.specs.Blocks.{Block, HeapState, words_in}
 use Rattle.tlsf_heap.specs.Placed.{placed_at}
 use Rattle.tlsf_heap.specs.Reports.{live_among}
@@ -31,8 +31,8 @@ abbrev pub words_at : HeapState → ℕ → ℕ
 words_at h at = live_words (placed_at h.blocks at)
 
 -- the most words ever in use: as many as before, or those in use now
-abbrev pub Peaks : Shown → Shown → Type 0
-Peaks old new = new.most_in_use ≡ max old.most_in_use (words_in_use new.heap)
+abbrev pub peak_of : Shown → Shown → ℕ
+peak_of old new = max old.most_in_use (words_in_use new.heap)
 
 -- the most that it was while the block at a place was resized and may have moved. While it moves, its old words are in use and the
 -- new ones too

@@ -1,25 +1,25 @@
 ghost use Rattle.std.specs.Fn.{FnOnceTakesAt, FnOnceTakesAtMut};
-ghost use Rattle.std.specs.Prelude.{◌≡◌, ◌≢◌, ℕ, List, ◌+◌, ◌*◌, ◌/◌, ◌-◌, ◌<◌, ◌≤◌, ◌^◌, ◌↔◌, false, true, length, min, take, IfOk, OnOk, OnErr, IsOk, IsErrOf, MatchResult, Ok, Err};
+ghost use Rattle.std.specs.Prelude.{◌≡◌, ◌≢◌, ℕ, List, ◌+◌, ◌*◌, ◌/◌, ◌-◌, ◌<◌, ◌≤◌, ◌^◌, ◌↔◌, true, length, min, take, IfOk, OnOk, OnErr, IsOk, IsErrOf, MatchResult, Ok, Err};
 ghost use Rattle.tlsf_class.specs.Classes.{IsLevel, most_words};
 ghost use Rattle.tlsf_heap.specs.Blocks;
 ghost use Rattle.tlsf_heap.specs.ByPlace.{released_by_place, IsPlaceCheck};
-ghost use Rattle.tlsf_heap.specs.Effects.{Allocates, Locates, Looks, Moves, Reads, Releases, Reports, Resizes, Writes};
+ghost use Rattle.tlsf_heap.specs.Effects.{Allocates, Locates, Looks, Moves, Reads, Releases, Reports, Resizes, Writes, AltersInPlace, InspectsInPlace};
 ghost use Rattle.tlsf_heap.specs.Footprint.{LeavesBoth, LeavesLive, LeavesPayloads};
 ghost use Rattle.tlsf_heap.specs.FreePlaces.{ShowsLists};
 ghost use Rattle.tlsf_heap.specs.Image.{Shows};
-ghost use Rattle.tlsf_heap.specs.InPlace.{payload_of, words_grown, ArePayload, Alters, Inspects, IsPayloadCheck, IsRefusedAsRead};
+ghost use Rattle.tlsf_heap.specs.InPlace.{payload_of, words_grown, ArePayload, IsPayloadCheck, IsRefusedAsRead};
 ghost use Rattle.tlsf_heap.specs.Lawful.{IsLawful, IsRegion};
 ghost use Rattle.tlsf_heap.specs.Laws.{IsLive};
 ghost use Rattle.tlsf_heap.specs.Moved.{copied, moved, payload_words_moved, resized_or_moved};
 ghost use Rattle.tlsf_heap.specs.GoodFit.{block_at};
 ghost use Rattle.tlsf_heap.specs.Named.{IsFirst, IsNameCheck};
 ghost use Rattle.tlsf_heap.specs.Regions.{image_of};
-ghost use Rattle.tlsf_heap.specs.Given.{payload_words_at, payload_words_left};
+ghost use Rattle.tlsf_heap.specs.Given.{payload_words_at};
 ghost use Rattle.tlsf_heap.specs.Unset.{lying, with_payload};
 ghost use Rattle.tlsf_heap.specs.Touched.{FollowsNoForgery, FollowsNoPlace, allocate_groups, allocate_touches, move_groups, move_touches, release_groups, release_touches, resize_groups, resize_touches, read_touches, write_touches};
-ghost use Rattle.tlsf_heap.specs.Calls.{opened, released, resized, resized_words, named, written, read_of, read_answer, has_bytes, last_tick};
-ghost use Rattle.tlsf_heap.specs.Kept.{IsAsBefore, Keeps};
-ghost use Rattle.tlsf_heap.specs.WordsInUse.{peak_moved, Peaks};
+ghost use Rattle.tlsf_heap.specs.Calls.{opened, released, resized, named, written, read_of, read_answer, has_bytes, last_tick};
+ghost use Rattle.tlsf_heap.specs.Kept.{ChangesBytes, ChangesNothing, DoesPart, FindsOut, Settles, SparesOthers};
+ghost use Rattle.tlsf_heap.specs.WordsInUse.{peak_moved, peak_of};
 ghost use Rattle.tlsf_words.specs.Touched.{InGroups};
 ghost use Rattle.tlsf_heap.specs.Shown.{seen};
 
@@ -155,13 +155,9 @@ impl<const SLI: u32> Heap<SLI> {
         // Accepted or refused, and whatever the region holds.
         ensures allocates { Allocates allocate_touches SLI (Blocks.want len) len (seen self.old) (seen self.new) result }
 
-        // A refusal changes nothing.
-        ensures err { OnErr result (IsAsBefore self.old self.new) }
-        ensures keeps { Keeps SLI self.old self.new }
-        ensures peak { Peaks self.old self.new }
-
-        // All lies in this many groups of eight words, and one more for each 64 bytes, but start bits and the lists.
-        ensures groups { InGroups (allocate_groups + len / 64) self.old.touched self.new.touched }
+        // A refusal changes nothing. All lies in this many groups of eight words, and one more for each 64 bytes, but start bits
+        // and the lists.
+        ensures frame { Settles SLI (allocate_groups + len / 64) (peak_of self.old self.new) self.old self.new result }
     {
         // Taken apart, so that each answer is written where it is made: handed on whole, it takes four instructions more.
         let name = match self.allocate_words(want(len), len) {
@@ -192,13 +188,10 @@ impl<const SLI: u32> Heap<SLI> {
         ensures allocates { Allocates allocate_touches SLI words len (seen self.old) (seen self.new) result }
 
         // A refusal changes nothing.
-        ensures err { OnErr result (IsAsBefore self.old self.new) }
-        ensures keeps { Keeps SLI self.old self.new }
-        ensures peak { Peaks self.old self.new }
+        ensures frame { Settles SLI (allocate_groups + len / 64) (peak_of self.old self.new) self.old self.new result }
 
         // The block given has the words wanted.
         ensures room { IfOk result (λ name. words ≤ 3 + payload_words_at (named name self.new.heap.blocks)) }
-        ensures groups { InGroups (allocate_groups + len / 64) self.old.touched self.new.touched }
     {
         let spare = words - want(len);
         let Some(class) = choose(&mut self.region, words) else {
@@ -241,13 +234,8 @@ impl<const SLI: u32> Heap<SLI> {
         // Accepted or refused, and whatever the region holds.
         ensures releases { Releases release_touches (seen self.old) (seen self.new) name result }
 
-        // A refusal changes nothing.
-        ensures err { OnErr result (IsAsBefore self.old self.new) }
-        ensures keeps { Keeps SLI self.old self.new }
-        ensures most { self.new.most_in_use ≡ self.old.most_in_use }
-
-        // All lies in this many groups of eight words, but start bits and the lists.
-        ensures groups { InGroups release_groups self.old.touched self.new.touched }
+        // A refusal changes nothing. All lies in this many groups of eight words, but start bits and the lists.
+        ensures frame { Settles SLI release_groups self.old.most_in_use self.old self.new result }
     {
         let own = self.check(name)?;
         self.check_tick()?;
@@ -275,13 +263,9 @@ impl<const SLI: u32> Heap<SLI> {
         // Accepted or refused, and whatever the region holds.
         ensures resizes { Resizes resize_touches (Blocks.want len) len (seen self.old) (seen self.new) name result }
 
-        // A refusal changes nothing.
-        ensures err { OnErr result (IsAsBefore self.old self.new) }
-        ensures keeps { Keeps SLI self.old self.new }
-        ensures peak { Peaks self.old self.new }
-
-        // All lies in this many groups of eight words, and one more for each 64 bytes that are new, but start bits and the lists.
-        ensures groups { InGroups (resize_groups + (len - length (payload_of self.old.heap name)) / 64) self.old.touched self.new.touched }
+        // A refusal changes nothing. All lies in this many groups of eight words, and one more for each 64 bytes that are new,
+        // but start bits and the lists.
+        ensures frame { Settles SLI (resize_groups + (len - length (payload_of self.old.heap name)) / 64) (peak_of self.old self.new) self.old self.new result }
         ensures refused_groups { OnErr result (InGroups 3 self.old.touched self.new.touched) }
     {
         self.resize_words(name, want(len), len)
@@ -304,13 +288,9 @@ impl<const SLI: u32> Heap<SLI> {
         // Accepted or refused, and whatever the region holds.
         ensures resizes { Resizes resize_touches words len (seen self.old) (seen self.new) name result }
 
-        // A refusal changes nothing.
-        ensures err { OnErr result (IsAsBefore self.old self.new) }
-        ensures keeps { Keeps SLI self.old self.new }
-        ensures peak { Peaks self.old self.new }
-
-        // All lies in this many groups of eight words, and one more for each 64 bytes that are new, but start bits and the lists.
-        ensures groups { InGroups (resize_groups + (len - length (payload_of self.old.heap name)) / 64) self.old.touched self.new.touched }
+        // A refusal changes nothing. All lies in this many groups of eight words, and one more for each 64 bytes that are new,
+        // but start bits and the lists.
+        ensures frame { Settles SLI (resize_groups + (len - length (payload_of self.old.heap name)) / 64) (peak_of self.old self.new) self.old self.new result }
         ensures refused_groups { OnErr result (InGroups 3 self.old.touched self.new.touched) }
     {
         let own = self.check(name)?;
@@ -336,13 +316,9 @@ impl<const SLI: u32> Heap<SLI> {
         // Accepted or refused, and whatever the region holds. Where the block stays, these are the touches of `resize`.
         ensures moves { Moves resize_touches move_touches SLI len (seen self.old) (seen self.new) name result }
 
-        // A refusal changes nothing.
-        ensures err { OnErr result (IsAsBefore self.old self.new) }
-        ensures keeps { Keeps SLI self.old self.new }
-        ensures peak { self.new.most_in_use ≡ peak_moved self.old name.at result self.new.heap }
-
-        // All lies in this many groups of eight words, and three more for each 64 bytes, but start bits and the lists.
-        ensures groups { InGroups (move_groups + 3 * (len / 64)) self.old.touched self.new.touched }
+        // A refusal changes nothing. All lies in this many groups of eight words, and three more for each 64 bytes, but start
+        // bits and the lists.
+        ensures frame { Settles SLI (move_groups + 3 * (len / 64)) (peak_moved self.old name.at result self.new.heap) self.old self.new result }
     {
         let own = self.check(name)?;
         self.refit_or_move(name, own, len)
@@ -364,9 +340,7 @@ impl<const SLI: u32> Heap<SLI> {
         ensures writes { Writes (write_touches (length bytes.now)) (seen self.old) (seen self.new) name at bytes.now result }
 
         // A refusal changes nothing.
-        ensures err { OnErr result (IsAsBefore self.old self.new) }
-        ensures keeps { Keeps SLI self.old self.new }
-        ensures most { self.new.most_in_use ≡ self.old.most_in_use }
+        ensures frame { ChangesBytes SLI self.old self.new result }
     {
         self.check_range(name, at, bytes.len())?;
         self.region.write(name.at, at, bytes);
@@ -385,8 +359,7 @@ impl<const SLI: u32> Heap<SLI> {
     #[inline(always)]
     pub fn read(&mut self, name: Name, at: u32, out: &mut [u8]) -> Result<(), Refusal>
         ensures reads { Reads (read_touches (length out.old)) (seen self.old) (seen self.new) name at out.old out.new result }
-        ensures same { IsAsBefore self.old self.new }
-        ensures keeps { Keeps SLI self.old self.new }
+        ensures frame { ChangesNothing SLI self.old self.new }
     {
         self.check_range(name, at, out.len())?;
         self.region.read(name.at, at, out);
@@ -412,15 +385,10 @@ impl<const SLI: u32> Heap<SLI> {
 
         // The payload that `f` was handed and that it left. The heap is as a write of those bytes makes it, so it has the same
         // blocks, and other names their bytes.
-        ensures altered { IfOk result (λ r. Alters F.FnOnce f self.old.heap name r self.new.heap) }
+        ensures alters { AltersInPlace F.FnOnce f (seen self.old) (seen self.new) name result }
 
         // A refusal changes nothing.
-        ensures err { OnErr result (IsAsBefore self.old self.new) }
-        ensures keeps { Keeps SLI self.old self.new }
-        ensures most { self.new.most_in_use ≡ self.old.most_in_use }
-        ensures touches { self.new.touches ≤ self.old.touches + 4 }
-        ensures leaves { LeavesLive self.old.heap.blocks self.old.touched self.new.touched }
-        ensures forged { FollowsNoForgery (seen self.old) (seen self.new) name }
+        ensures frame { ChangesBytes SLI self.old self.new result }
     {
         let len = self.check_payload(name)?;
         Ok(self.region.alter(name.at, len, f))
@@ -440,12 +408,8 @@ impl<const SLI: u32> Heap<SLI> {
     pub fn inspect<R, F: FnOnce(&[u64]) -> R>(&mut self, name: Name, f: F) -> Result<R, Refusal>
         requires { IsLive self.old.heap name → (words : List ℕ) → ArePayload self.old.heap name words → FnOnceTakesAt F.FnOnce f words }
         ensures answer { IsRefusedAsRead self.old.heap name result }
-        ensures inspected { IfOk result (λ r. Inspects F.FnOnce f self.old.heap name r) }
-        ensures same { IsAsBefore self.old self.new }
-        ensures keeps { Keeps SLI self.old self.new }
-        ensures touches { self.new.touches ≤ self.old.touches + 4 }
-        ensures leaves { LeavesLive self.old.heap.blocks self.old.touched self.new.touched }
-        ensures forged { FollowsNoForgery (seen self.old) (seen self.new) name }
+        ensures inspects { InspectsInPlace F.FnOnce f (seen self.old) (seen self.new) name result }
+        ensures frame { ChangesNothing SLI self.old self.new }
     {
         let len = self.check_payload(name)?;
         Ok(self.region.inspect(name.at, len, f))
@@ -462,8 +426,7 @@ impl<const SLI: u32> Heap<SLI> {
     /// ```
     pub fn payload(&mut self, name: Name) -> Result<(*mut u64, u32), Refusal>
         ensures locates { Locates self.old.extents.words.address (seen self.old) (seen self.new) name result }
-        ensures same { IsAsBefore self.old self.new }
-        ensures keeps { Keeps SLI self.old self.new }
+        ensures frame { ChangesNothing SLI self.old self.new }
     {
         let len = self.check_payload(name)?;
         let base = self.region.base();
@@ -478,8 +441,7 @@ impl<const SLI: u32> Heap<SLI> {
     /// ```
     pub fn report(&mut self) -> Report
         ensures reports { Reports SLI (seen self.old) (seen self.new) result }
-        ensures same { IsAsBefore self.old self.new }
-        ensures keeps { Keeps SLI self.old self.new }
+        ensures frame { ChangesNothing SLI self.old self.new }
     {
         let tick = self.tick;
         Tally::of(&mut self.region, tick).report::<SLI>(tick)
@@ -496,8 +458,7 @@ impl<const SLI: u32> Heap<SLI> {
     pub fn block_at(&mut self, at: u32) -> Option<PlacedBlock>
         ensures looks { Looks (seen self.old) (seen self.new) at result }
         ensures unread { ¬ (Blocks.IsPlace self.old.heap.blocks at) → self.new.touched ≡ self.old.touched }
-        ensures same { IsAsBefore self.old self.new }
-        ensures keeps { Keeps SLI self.old self.new }
+        ensures frame { ChangesNothing SLI self.old self.new }
         ensures most { self.old.heap.words ≤ most_words SLI }
     {
         self.region.block_at(at)
@@ -526,11 +487,7 @@ impl<const SLI: u32> Heap<SLI> {
     #[inline(always)]
     fn check(&mut self, name: Name) -> Result<Tag, Refusal>
         ensures answer { IsNameCheck self.old.heap name result }
-        ensures same { IsAsBefore self.old self.new }
-        ensures keeps { Keeps SLI self.old self.new }
-        ensures touches { self.new.touches ≤ self.old.touches + 3 }
-        ensures leaves { LeavesLive self.old.heap.blocks self.old.touched self.new.touched }
-        ensures groups { InGroups 2 self.old.touched self.new.touched }
+        ensures frame { FindsOut SLI 3 2 self.old self.new }
         ensures forged { FollowsNoForgery (seen self.old) (seen self.new) name }
     {
         if name.heap != self.id {
@@ -548,11 +505,7 @@ impl<const SLI: u32> Heap<SLI> {
     #[inline(always)]
     fn check_place(&mut self, at: u32) -> Result<Tag, Refusal>
         ensures answer { IsPlaceCheck self.old.heap at result }
-        ensures same { IsAsBefore self.old self.new }
-        ensures keeps { Keeps SLI self.old self.new }
-        ensures touches { self.new.touches ≤ self.old.touches + 2 }
-        ensures leaves { LeavesLive self.old.heap.blocks self.old.touched self.new.touched }
-        ensures groups { InGroups 1 self.old.touched self.new.touched }
+        ensures frame { FindsOut SLI 2 1 self.old self.new }
         ensures wild { FollowsNoPlace self.old.heap at self.old.touches self.new.touches }
         ensures unread { ¬ (Blocks.IsPlace self.old.heap.blocks at) → self.new.touched ≡ self.old.touched }
     {
@@ -581,11 +534,8 @@ impl<const SLI: u32> Heap<SLI> {
         requires tick { self.old.heap.tick ≢ last_tick }
         ensures answer { (released_by_place self.old.heap at).answer ≡ Ok tt }
         ensures heap { self.new.heap ≡ (released_by_place self.old.heap at).heap }
-        ensures keeps { Keeps SLI self.old self.new }
-        ensures most { self.new.most_in_use ≡ self.old.most_in_use }
-        ensures touches { self.new.touches ≤ self.old.touches + 27 }
+        ensures frame { DoesPart SLI 27 13 self.old self.new }
         ensures leaves { LeavesPayloads self.old.heap.blocks at self.old.touched self.new.touched }
-        ensures groups { InGroups 13 self.old.touched self.new.touched }
     {
         self.usage.take_back(own.size());
         coalesce(&mut self.region, &mut self.tick, at, own);
@@ -594,11 +544,7 @@ impl<const SLI: u32> Heap<SLI> {
     /// The payload length in bytes of the live block of that name. Where none has it, `Foreign` or else `Stale`.
     fn check_payload(&mut self, name: Name) -> Result<u32, Refusal>
         ensures answer { IsPayloadCheck self.old.heap name result }
-        ensures same { IsAsBefore self.old self.new }
-        ensures keeps { Keeps SLI self.old self.new }
-        ensures touches { self.new.touches ≤ self.old.touches + 4 }
-        ensures leaves { LeavesLive self.old.heap.blocks self.old.touched self.new.touched }
-        ensures groups { InGroups 3 self.old.touched self.new.touched }
+        ensures frame { FindsOut SLI 4 3 self.old self.new }
         ensures forged { FollowsNoForgery (seen self.old) (seen self.new) name }
     {
         self.check(name)?;
@@ -613,10 +559,7 @@ impl<const SLI: u32> Heap<SLI> {
         requires { n < 2 ^ 63 }
         ensures answer { result ≡ read_answer (read_of self.old.heap name at n) }
         ensures place { OnOk result ((i : ℕ) × IsFirst name.at name.serial self.old.heap.blocks i × (has_bytes (block_at self.old.heap.blocks i) at n ≡ true)) }
-        ensures same { IsAsBefore self.old self.new }
-        ensures keeps { Keeps SLI self.old self.new }
-        ensures touches { self.new.touches ≤ self.old.touches + 4 }
-        ensures leaves { LeavesLive self.old.heap.blocks self.old.touched self.new.touched }
+        ensures frame { FindsOut SLI 4 3 self.old self.new }
         ensures forged { FollowsNoForgery (seen self.old) (seen self.new) name }
     {
         self.check(name)?;
@@ -633,14 +576,10 @@ impl<const SLI: u32> Heap<SLI> {
         requires { IsNameCheck self.old.heap name (Ok own) }
         ensures answer { result ≡ (resized_or_moved SLI self.old.heap name len).answer }
         ensures heap { self.new.heap ≡ (resized_or_moved SLI self.old.heap name len).heap }
-        ensures err { OnErr result (IsAsBefore self.old self.new) }
-        ensures keeps { Keeps SLI self.old self.new }
-        ensures peak { self.new.most_in_use ≡ peak_moved self.old name.at result self.new.heap }
+        ensures frame { Settles SLI (35 + 3 * (len / 64)) (peak_moved self.old name.at result self.new.heap) self.old self.new result }
         ensures in_place { IsOk (resized self.old.heap name len).answer → self.new.touches ≤ self.old.touches + 25 + words_grown self.old.heap len name }
         ensures elsewhere { ¬ (IsOk (resized self.old.heap name len).answer) → self.new.touches ≤ self.old.touches + 85 + 3 * payload_words_moved SLI self.old.heap len }
-        ensures leaves { LeavesPayloads self.old.heap.blocks name.at self.old.touched self.new.touched }
-        ensures groups { InGroups (35 + 3 * (len / 64)) self.old.touched self.new.touched }
-        ensures refused { OnErr result (LeavesLive self.old.heap.blocks self.old.touched self.new.touched) }
+        ensures others { SparesOthers name.at self.old self.new result }
     {
         match self.refit(name, own, want(len), len, true) {
             Ok(()) => Ok(name),
@@ -654,13 +593,9 @@ impl<const SLI: u32> Heap<SLI> {
         requires { IsLive self.old.heap name }
         ensures answer { result ≡ (moved SLI self.old.heap name len).answer }
         ensures heap { self.new.heap ≡ (moved SLI self.old.heap name len).heap }
-        ensures err { OnErr result (IsAsBefore self.old self.new) }
-        ensures keeps { Keeps SLI self.old self.new }
-        ensures peak { self.new.most_in_use ≡ peak_moved self.old name.at result self.new.heap }
+        ensures frame { Settles SLI (34 + 3 * (len / 64)) (peak_moved self.old name.at result self.new.heap) self.old self.new result }
         ensures touches { self.new.touches ≤ self.old.touches + 61 + 3 * payload_words_moved SLI self.old.heap len }
-        ensures leaves { LeavesPayloads self.old.heap.blocks name.at self.old.touched self.new.touched }
-        ensures groups { InGroups (34 + 3 * (len / 64)) self.old.touched self.new.touched }
-        ensures refused { OnErr result (LeavesLive self.old.heap.blocks self.old.touched self.new.touched) }
+        ensures others { SparesOthers name.at self.old self.new result }
     {
         if self.tick >= u64::MAX - 1 {
             return Err(Refusal::Worn);
@@ -678,11 +613,8 @@ impl<const SLI: u32> Heap<SLI> {
         requires tick { self.old.heap.tick ≢ last_tick }
         ensures answer { result ≡ Ok new }
         ensures heap { self.new.heap ≡ (released (copied self.old.heap name new).heap name).heap }
-        ensures keeps { Keeps SLI self.old self.new }
-        ensures most { self.new.most_in_use ≡ self.old.most_in_use }
-        ensures touches { self.new.touches ≤ self.old.touches + 35 + 2 * (min (length (payload_of self.old.heap name)) (length (payload_of self.old.heap new)) / 8) }
+        ensures frame { DoesPart SLI (35 + 2 * (min (length (payload_of self.old.heap name)) (length (payload_of self.old.heap new)) / 8)) (21 + 2 * (min (length (payload_of self.old.heap name)) (length (payload_of self.old.heap new)) / 64)) self.old self.new }
         ensures leaves { LeavesBoth self.old.heap.blocks name.at new.at self.old.touched self.new.touched }
-        ensures groups { InGroups (21 + 2 * (min (length (payload_of self.old.heap name)) (length (payload_of self.old.heap new)) / 64)) self.old.touched self.new.touched }
     {
         let len = self.length(name).min(self.length(new));
         self.copy(name, new, len);
@@ -695,11 +627,7 @@ impl<const SLI: u32> Heap<SLI> {
     fn tag_of(&mut self, name: Name) -> Tag
         requires { IsLive self.old.heap name }
         ensures tag { IsPlaceCheck self.old.heap name.at (Ok result) }
-        ensures same { IsAsBefore self.old self.new }
-        ensures keeps { Keeps SLI self.old self.new }
-        ensures touches { self.new.touches ≤ self.old.touches + 1 }
-        ensures leaves { LeavesLive self.old.heap.blocks self.old.touched self.new.touched }
-        ensures groups { InGroups 1 self.old.touched self.new.touched }
+        ensures frame { FindsOut SLI 1 1 self.old self.new }
     {
         self.region.tag(name.at)
     }
@@ -708,11 +636,7 @@ impl<const SLI: u32> Heap<SLI> {
     fn length(&mut self, name: Name) -> u32
         requires { IsLive self.old.heap name }
         ensures value { result ≡ length (payload_of self.old.heap name) }
-        ensures same { IsAsBefore self.old self.new }
-        ensures keeps { Keeps SLI self.old self.new }
-        ensures touches { self.new.touches ≤ self.old.touches + 1 }
-        ensures leaves { LeavesLive self.old.heap.blocks self.old.touched self.new.touched }
-        ensures groups { InGroups 1 self.old.touched self.new.touched }
+        ensures frame { FindsOut SLI 1 1 self.old self.new }
     {
         self.region.length(name.at)
     }
@@ -724,11 +648,8 @@ impl<const SLI: u32> Heap<SLI> {
         requires least { len ≤ length (payload_of self.old.heap from) }
         requires room { len ≤ length (payload_of self.old.heap to) }
         ensures heap { self.new.heap ≡ (written self.old.heap to 0 (take len (payload_of self.old.heap from))).heap }
-        ensures keeps { Keeps SLI self.old self.new }
-        ensures most { self.new.most_in_use ≡ self.old.most_in_use }
-        ensures touches { self.new.touches ≤ self.old.touches + 2 * (len / 8) + 3 }
+        ensures frame { DoesPart SLI (2 * (len / 8) + 3) (4 + 2 * (len / 64)) self.old self.new }
         ensures leaves { LeavesBoth self.old.heap.blocks from.at to.at self.old.touched self.new.touched }
-        ensures groups { InGroups (4 + 2 * (len / 64)) self.old.touched self.new.touched }
     {
         self.region.copy(from.at, to.at, len);
     }
@@ -742,11 +663,8 @@ impl<const SLI: u32> Heap<SLI> {
         ensures heap { self.new.heap ≡ with_payload self.old.heap name (lying self.new.stored name.at len) }
         ensures lies { lying self.new.stored name.at len ≡ lying self.old.stored name.at len }
         ensures level { IsLevel SLI }
-        ensures keeps { Keeps SLI self.old self.new }
-        ensures most { self.new.most_in_use ≡ self.old.most_in_use }
-        ensures touches { self.new.touches ≤ self.old.touches + 1 }
+        ensures frame { DoesPart SLI 1 1 self.old self.new }
         ensures leaves { LeavesLive self.old.heap.blocks self.old.touched self.new.touched }
-        ensures groups { InGroups 1 self.old.touched self.new.touched }
     {
         self.region.set_length(name.at, len);
     }

@@ -6,6 +6,7 @@ pub mod Write
 pub mod Alter
 pub mod Resize
 pub mod Outcomes
+pub mod Frames
 pub mod Leaves
 pub mod GivenBlock
 pub mod LeftBlock

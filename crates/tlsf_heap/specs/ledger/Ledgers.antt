@@ -1,5 +1,5 @@
 -- A heap with a ledger.
-use Rattle.std.specs.Prelude.{◌≡◌, ℕ, ◌≤◌, List}
+use Rattle.std.specs.Prelude.{◌≡◌, ℕ, ◌≤◌, List, Result, OnErr}
 use Rattle.tlsf_words.specs.Memory.{Extents}
 use Rattle.tlsf_heap.specs.Blocks.{HeapState}
 use Rattle.tlsf_heap.specs.Image.{Image}
@@ -31,3 +31,20 @@ pub record KeepsLedger {L : Type 0} (IsOf : HeapState → L → Type 0) (old new
 pub record SameLedger {L : Type 0} (old new : LedgerState L) : Type 0 where
   pub heap : new.heap ≡ old.heap
   pub ledger : new.ledger ≡ old.ledger
+
+-- a call that changes neither
+pub record ChangesNoLedger {L : Type 0} (IsOf : HeapState → L → Type 0) (old new : LedgerState L) : Type 0 where
+  pub same : SameLedger old new
+  pub keeps : KeepsLedger IsOf old new
+
+-- a call that may change the heap, and is noted neither as a grant nor as a return. Where it is refused, it changes neither
+pub record NotesNothing {L A E : Type 0} (IsOf : HeapState → L → Type 0) (old new : LedgerState L) (answer : Result A E) : Type 0 where
+  pub ledger : new.ledger ≡ old.ledger
+  pub err : OnErr answer (SameLedger old new)
+  pub keeps : KeepsLedger IsOf old new
+
+-- a grant or a return, which is noted: the limits stay. Where it is refused, it changes neither
+pub record NotesIt {L A E : Type 0} (IsOf : HeapState → L → Type 0) (HasLimitsOf : L → L → Type 0) (old new : LedgerState L) (answer : Result A E) : Type 0 where
+  pub limits : HasLimitsOf old.ledger new.ledger
+  pub err : OnErr answer (SameLedger old new)
+  pub keeps : KeepsLedger IsOf old new

@@ -1,4 +1,4 @@
-ghost use Rattle.std.specs.Prelude.{◌≡◌, ◌+◌, ◌%◌, ◌^◌, ◌<◌, ◌≤◌, max, OnErr, IsOk};
+ghost use Rattle.std.specs.Prelude.{◌≡◌, ◌+◌, ◌%◌, ◌^◌, ◌<◌, ◌≤◌, max, IsOk};
 ghost use Rattle.tlsf_class.specs.Classes.{most_words};
 ghost use Rattle.tlsf_heap.specs.Aligned.{words_from, gap_of, moved_on, AnswersFrom};
 ghost use Rattle.tlsf_heap.specs.Blocks;
@@ -8,9 +8,9 @@ ghost use Rattle.tlsf_heap.specs.Given.{payload_words_at};
 ghost use Rattle.tlsf_heap.specs.Footprint.{LeavesLive, LeavesPayloads};
 ghost use Rattle.tlsf_heap.specs.Laws.{IsLive};
 ghost use Rattle.tlsf_heap.specs.Shown.{seen};
-ghost use Rattle.tlsf_heap.specs.Kept.{IsAsBefore, Keeps};
+ghost use Rattle.tlsf_heap.specs.Kept.{Keeps, Settles};
 ghost use Rattle.tlsf_heap.specs.Touched.{FollowsNoPlace, allocate_aligned_touches, allocate_from_touches};
-ghost use Rattle.tlsf_heap.specs.WordsInUse.{words_in_use, Peaks};
+ghost use Rattle.tlsf_heap.specs.WordsInUse.{words_in_use, peak_of};
 ghost use Rattle.tlsf_words.specs.Touched.{InGroups};
 
 use super::{Heap, want};
@@ -53,10 +53,7 @@ impl<const SLI: u32> Heap<SLI> {
         ensures allocates { AllocatesFrom allocate_from_touches len (seen self.old) (seen self.new) self.new.stored at result }
 
         // A refusal changes nothing.
-        ensures err { OnErr result (IsAsBefore self.old self.new) }
-        ensures keeps { Keeps SLI self.old self.new }
-        ensures peak { Peaks self.old self.new }
-        ensures groups { InGroups 13 self.old.touched self.new.touched }
+        ensures frame { Settles SLI 13 (peak_of self.old self.new) self.old self.new result }
     {
         let name = match self.words_from(at, want(len)) {
             Ok(name) => name,
@@ -83,10 +80,7 @@ impl<const SLI: u32> Heap<SLI> {
         ensures allocates { AllocatesAligned allocate_aligned_touches SLI len (max step 1) skew (seen self.old) (seen self.new) self.new.stored result }
 
         // A refusal changes nothing.
-        ensures err { OnErr result (IsAsBefore self.old self.new) }
-        ensures keeps { Keeps SLI self.old self.new }
-        ensures peak { Peaks self.old self.new }
-        ensures groups { InGroups 56 self.old.touched self.new.touched }
+        ensures frame { Settles SLI 56 (peak_of self.old self.new) self.old self.new result }
     {
         if self.tick >= u64::MAX - 3 {
             return Err(Refusal::Worn);
@@ -153,12 +147,9 @@ impl<const SLI: u32> Heap<SLI> {
         ensures answer { result ≡ (words_from self.old.heap at words).answer }
         ensures heap { self.new.heap ≡ (words_from self.old.heap at words).heap }
         ensures cases { AnswersFrom self.old.heap at words result }
-        ensures err { OnErr result (IsAsBefore self.old self.new) }
-        ensures keeps { Keeps SLI self.old self.new }
-        ensures peak { Peaks self.old self.new }
+        ensures frame { Settles SLI 12 (peak_of self.old self.new) self.old self.new result }
         ensures touches { self.new.touches ≤ self.old.touches + 24 }
         ensures leaves { LeavesLive self.old.heap.blocks self.old.touched self.new.touched }
-        ensures groups { InGroups 12 self.old.touched self.new.touched }
         ensures wild { FollowsNoPlace self.old.heap at self.old.touches self.new.touches }
         ensures unread { ¬ (Blocks.IsPlace self.old.heap.blocks at) → self.new.touched ≡ self.old.touched }
     {

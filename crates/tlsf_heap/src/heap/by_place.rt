@@ -1,13 +1,11 @@
-ghost use Rattle.std.specs.Prelude.{◌≡◌, ◌+◌, ◌<◌, ◌≤◌, MatchOption, None, Ok, OnErr, Some};
+ghost use Rattle.std.specs.Prelude.{◌≡◌, ◌<◌, MatchOption, None, Ok, Some};
 ghost use Rattle.tlsf_heap.specs.Blocks;
 ghost use Rattle.tlsf_heap.specs.ByPlace.{name_at};
 ghost use Rattle.tlsf_heap.specs.Effects.{NamesAt, ReleasesAt};
-ghost use Rattle.tlsf_heap.specs.Footprint.{LeavesLive};
 ghost use Rattle.tlsf_heap.specs.Named.{IsNameCheck};
-ghost use Rattle.tlsf_heap.specs.Kept.{IsAsBefore, Keeps};
+ghost use Rattle.tlsf_heap.specs.Kept.{FindsOut, Settles};
 ghost use Rattle.tlsf_heap.specs.Shown.{seen};
 ghost use Rattle.tlsf_heap.specs.Touched.{FollowsNoPlace, release_at_touches, release_groups};
-ghost use Rattle.tlsf_words.specs.Touched.{InGroups};
 
 use super::Heap;
 use crate::name::Name;
@@ -26,9 +24,7 @@ impl<const SLI: u32> Heap<SLI> {
     /// ```
     pub fn name_at(&mut self, at: u32) -> Option<Name>
         ensures names { NamesAt (seen self.old) (seen self.new) at result }
-        ensures same { IsAsBefore self.old self.new }
-        ensures keeps { Keeps SLI self.old self.new }
-        ensures groups { InGroups 2 self.old.touched self.new.touched }
+        ensures frame { FindsOut SLI 3 2 self.old self.new }
     {
         match self.find_at(at) {
             None => None,
@@ -50,13 +46,8 @@ impl<const SLI: u32> Heap<SLI> {
         // Accepted or refused, and whatever the region holds: one fewer than `release`, since no serial is read.
         ensures releases { ReleasesAt release_at_touches (seen self.old) (seen self.new) at result }
 
-        // A refusal changes nothing.
-        ensures err { OnErr result (IsAsBefore self.old self.new) }
-        ensures keeps { Keeps SLI self.old self.new }
-        ensures most { self.new.most_in_use ≡ self.old.most_in_use }
-
-        // All lies in this many groups of eight words, but start bits and the lists.
-        ensures groups { InGroups release_groups self.old.touched self.new.touched }
+        // A refusal changes nothing. All lies in this many groups of eight words, but start bits and the lists.
+        ensures frame { Settles SLI release_groups self.old.most_in_use self.old self.new result }
     {
         let own = self.check_place(at)?;
         self.check_tick()?;
@@ -68,11 +59,7 @@ impl<const SLI: u32> Heap<SLI> {
     #[inline(always)]
     pub(super) fn find_at(&mut self, at: u32) -> Option<(Name, Tag)>
         ensures found { MatchOption result (name_at self.old.heap at ≡ None) (λ f. (name_at self.old.heap at ≡ Some f.0) × IsNameCheck self.old.heap f.0 (Ok f.1) × (f.0.at ≡ at) × (at < self.old.heap.words)) }
-        ensures same { IsAsBefore self.old self.new }
-        ensures keeps { Keeps SLI self.old self.new }
-        ensures touches { self.new.touches ≤ self.old.touches + 3 }
-        ensures leaves { LeavesLive self.old.heap.blocks self.old.touched self.new.touched }
-        ensures groups { InGroups 2 self.old.touched self.new.touched }
+        ensures frame { FindsOut SLI 3 2 self.old self.new }
         ensures wild { FollowsNoPlace self.old.heap at self.old.touches self.new.touches }
         ensures unread { ¬ (Blocks.IsPlace self.old.heap.blocks at) → self.new.touched ≡ self.old.touched }
     {

@@ -1,7 +1,7 @@
 ghost use Rattle.std.specs.Prelude.{◌≡◌};
 ghost use Rattle.tlsf_heap.specs.Blocks.{IsPlace};
 ghost use Rattle.tlsf_heap.specs.Effects.{ChecksBlocks};
-ghost use Rattle.tlsf_heap.specs.Kept.{IsAsBefore, Keeps};
+ghost use Rattle.tlsf_heap.specs.Kept.{ChangesNothing};
 ghost use Rattle.tlsf_heap.specs.Shown.{seen};
 
 use super::Heap;
@@ -25,8 +25,7 @@ impl<const SLI: u32> Heap<SLI> {
     /// ```
     pub fn check_blocks(&mut self, from: u32, most: u32) -> Option<Checked>
         ensures checks { ChecksBlocks self.old.stored from most (seen self.old) (seen self.new) result }
-        ensures same { IsAsBefore self.old self.new }
-        ensures keeps { Keeps SLI self.old self.new }
+        ensures frame { ChangesNothing SLI self.old self.new }
 
         // Not even a start bit is read unless the place lies in the region, and no word unless a block begins there.
         ensures unread { ¬ (IsPlace self.old.heap.blocks from) → self.new.touched ≡ self.old.touched }

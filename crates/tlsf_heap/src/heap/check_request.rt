@@ -1,5 +1,5 @@
 ghost use Rattle.tlsf_heap.specs.Effects.{ChecksRequest};
-ghost use Rattle.tlsf_heap.specs.Kept.{IsAsBefore, Keeps};
+ghost use Rattle.tlsf_heap.specs.Kept.{ChangesNothing};
 ghost use Rattle.tlsf_heap.specs.Shown.{seen};
 
 use super::{Heap, want};
@@ -21,8 +21,7 @@ impl<const SLI: u32> Heap<SLI> {
     pub fn check_request(&mut self, len: u32) -> Option<Checked>
         // The law on words that hold anything is one of these, by the place of the block that serves the request.
         ensures checks { ChecksRequest SLI self.old.stored len (seen self.old) (seen self.new) result }
-        ensures same { IsAsBefore self.old self.new }
-        ensures keeps { Keeps SLI self.old self.new }
+        ensures frame { ChangesNothing SLI self.old self.new }
     {
         let words = want(len);
         let class = choose(&mut self.region, words)?;

@@ -1,11 +1,9 @@
-ghost use Rattle.std.specs.Prelude.{◌≡◌, ◌+◌, ◌≤◌};
-ghost use Rattle.tlsf_heap.specs.Kept.{IsAsBefore, Keeps};
+ghost use Rattle.std.specs.Prelude.{◌≡◌};
+ghost use Rattle.tlsf_heap.specs.Kept.{ChangesNothing, FindsOut};
 ghost use Rattle.tlsf_heap.specs.Effects.{AsksLive};
-ghost use Rattle.tlsf_heap.specs.Footprint.{LeavesLive};
 ghost use Rattle.tlsf_heap.specs.Laws.{IsLive};
 ghost use Rattle.tlsf_heap.specs.Shown.{seen};
 ghost use Rattle.tlsf_heap.specs.WordsInUse.{words_at};
-ghost use Rattle.tlsf_words.specs.Touched.{InGroups};
 
 use super::Heap;
 use crate::name::Name;
@@ -22,8 +20,7 @@ impl<const SLI: u32> Heap<SLI> {
     /// ```
     pub fn is_live(&mut self, name: Name) -> bool
         ensures asks { AsksLive (seen self.old) (seen self.new) name result }
-        ensures same { IsAsBefore self.old self.new }
-        ensures keeps { Keeps SLI self.old self.new }
+        ensures frame { ChangesNothing SLI self.old self.new }
     {
         self.check(name).is_ok()
     }
@@ -38,11 +35,7 @@ impl<const SLI: u32> Heap<SLI> {
     pub fn words_of(&mut self, name: Name) -> u32
         requires { IsLive self.old.heap name }
         ensures words { result ≡ words_at self.old.heap name.at }
-        ensures same { IsAsBefore self.old self.new }
-        ensures keeps { Keeps SLI self.old self.new }
-        ensures touches { self.new.touches ≤ self.old.touches + 1 }
-        ensures leaves { LeavesLive self.old.heap.blocks self.old.touched self.new.touched }
-        ensures groups { InGroups 1 self.old.touched self.new.touched }
+        ensures frame { FindsOut SLI 1 1 self.old self.new }
     {
         let own = self.tag_of(name);
         own.size()

@@ -2,12 +2,11 @@
 ghost use Rattle.std.specs.Prelude.{◌≡◌, ◌+◌, ◌-◌, ◌/◌, ◌≤◌, false, length, OnErr, Ok};
 ghost use Rattle.tlsf_heap.specs.Blocks;
 ghost use Rattle.tlsf_heap.specs.Calls.{resized_words};
-ghost use Rattle.tlsf_heap.specs.Footprint.{LeavesLive, LeavesPayloads};
 ghost use Rattle.tlsf_heap.specs.Given.{payload_words_left};
 ghost use Rattle.tlsf_heap.specs.InPlace.{payload_of, words_grown};
-ghost use Rattle.tlsf_heap.specs.Kept.{IsAsBefore, Keeps};
+ghost use Rattle.tlsf_heap.specs.Kept.{Settles, SparesOthers};
 ghost use Rattle.tlsf_heap.specs.Named.{IsNameCheck};
-ghost use Rattle.tlsf_heap.specs.WordsInUse.{Peaks};
+ghost use Rattle.tlsf_heap.specs.WordsInUse.{peak_of};
 ghost use Rattle.tlsf_words.specs.Touched.{InGroups};
 
 use super::Heap;
@@ -33,15 +32,11 @@ impl<const SLI: u32> Heap<SLI> {
         requires grows { grows ≡ false → len ≤ length (payload_of self.old.heap name) }
         ensures answer { result ≡ (resized_words self.old.heap name words len).answer }
         ensures heap { self.new.heap ≡ (resized_words self.old.heap name words len).heap }
-        ensures err { OnErr result (IsAsBefore self.old self.new) }
-        ensures keeps { Keeps SLI self.old self.new }
-        ensures peak { Peaks self.old self.new }
+        ensures frame { Settles SLI (13 + (len - length (payload_of self.old.heap name)) / 64) (peak_of self.old self.new) self.old self.new result }
         ensures touches { self.new.touches ≤ self.old.touches + 24 + payload_words_left result self.new.heap name }
         ensures grown { self.new.touches ≤ self.old.touches + 25 + words_grown self.old.heap len name }
-        ensures leaves { LeavesPayloads self.old.heap.blocks name.at self.old.touched self.new.touched }
-        ensures groups { InGroups (13 + (len - length (payload_of self.old.heap name)) / 64) self.old.touched self.new.touched }
+        ensures others { SparesOthers name.at self.old self.new result }
         ensures refused_groups { OnErr result (InGroups 1 self.old.touched self.new.touched) }
-        ensures refused { OnErr result (LeavesLive self.old.heap.blocks self.old.touched self.new.touched) }
     {
         let held = own.size();
         if words <= held {

@@ -1,9 +1,7 @@
-ghost use Rattle.std.specs.Prelude.{◌≡◌, OnErr};
 ghost use Rattle.tlsf_heap.specs.Effects.{Resets};
-ghost use Rattle.tlsf_heap.specs.Kept.{IsAsBefore, Keeps};
+ghost use Rattle.tlsf_heap.specs.Kept.{Settles};
 ghost use Rattle.tlsf_heap.specs.Shown.{seen};
 ghost use Rattle.tlsf_heap.specs.Touched.{reset_touches};
-ghost use Rattle.tlsf_words.specs.Touched.{InGroups};
 
 use super::Heap;
 use crate::refusal::Refusal;
@@ -26,13 +24,8 @@ impl<const SLI: u32> Heap<SLI> {
         // Accepted or refused, and whatever the region holds.
         ensures resets { Resets reset_touches (seen self.old) (seen self.new) result }
 
-        // A refusal changes nothing.
-        ensures err { OnErr result (IsAsBefore self.old self.new) }
-        ensures keeps { Keeps SLI self.old self.new }
-        ensures most { self.new.most_in_use ≡ self.old.most_in_use }
-
-        // All lies in one group of eight words, but start bits and the lists.
-        ensures groups { InGroups 1 self.old.touched self.new.touched }
+        // A refusal changes nothing. All lies in one group of eight words, but start bits and the lists.
+        ensures frame { Settles SLI 1 self.old.most_in_use self.old self.new result }
     {
         if self.tick == u64::MAX {
             return Err(Refusal::Worn);

@@ -3,14 +3,13 @@ ghost use Rattle.tlsf_heap.specs.ByPlace.{kept_at};
 ghost use Rattle.tlsf_heap.specs.Calls.{resized};
 ghost use Rattle.tlsf_heap.specs.Effects.{AllocatesUnset, MovesUnset, MovesUnsetAt, ResizesUnset};
 ghost use Rattle.tlsf_heap.specs.InPlace.{payload_of};
-ghost use Rattle.tlsf_heap.specs.Footprint.{LeavesLive, LeavesPayloads};
 ghost use Rattle.tlsf_heap.specs.Laws.{IsLive};
 ghost use Rattle.tlsf_heap.specs.Moved.{moved, resized_or_moved};
 ghost use Rattle.tlsf_heap.specs.Named.{IsNameCheck};
 ghost use Rattle.tlsf_heap.specs.Touched.{allocate_unset_touches, move_unset_touches, resize_unset_touches};
 ghost use Rattle.tlsf_heap.specs.Unset.{unset_from};
-ghost use Rattle.tlsf_heap.specs.Kept.{IsAsBefore, Keeps};
-ghost use Rattle.tlsf_heap.specs.WordsInUse.{peak_moved, Peaks};
+ghost use Rattle.tlsf_heap.specs.Kept.{Settles, SparesOthers};
+ghost use Rattle.tlsf_heap.specs.WordsInUse.{peak_moved, peak_of};
 ghost use Rattle.tlsf_words.specs.Touched.{InGroups};
 ghost use Rattle.tlsf_heap.specs.Shown.{seen};
 
@@ -38,10 +37,7 @@ impl<const SLI: u32> Heap<SLI> {
         ensures allocates { AllocatesUnset allocate_unset_touches SLI len (seen self.old) (seen self.new) self.new.stored result }
 
         // A refusal changes nothing.
-        ensures err { OnErr result (IsAsBefore self.old self.new) }
-        ensures keeps { Keeps SLI self.old self.new }
-        ensures peak { Peaks self.old self.new }
-        ensures groups { InGroups 14 self.old.touched self.new.touched }
+        ensures frame { Settles SLI 14 (peak_of self.old self.new) self.old self.new result }
     {
         let words = want(len);
         let Some(class) = choose(&mut self.region, words) else {
@@ -77,10 +73,7 @@ impl<const SLI: u32> Heap<SLI> {
         ensures resizes { ResizesUnset resize_unset_touches len (seen self.old) (seen self.new) self.new.stored name result }
 
         // A refusal changes nothing.
-        ensures err { OnErr result (IsAsBefore self.old self.new) }
-        ensures keeps { Keeps SLI self.old self.new }
-        ensures peak { Peaks self.old self.new }
-        ensures groups { InGroups 17 self.old.touched self.new.touched }
+        ensures frame { Settles SLI 17 (peak_of self.old self.new) self.old self.new result }
         ensures refused_groups { OnErr result (InGroups 4 self.old.touched self.new.touched) }
     {
         let own = self.check(name)?;
@@ -108,10 +101,7 @@ impl<const SLI: u32> Heap<SLI> {
         ensures moves { MovesUnset resize_unset_touches move_unset_touches SLI len (seen self.old) (seen self.new) self.new.stored name result }
 
         // A refusal changes nothing.
-        ensures err { OnErr result (IsAsBefore self.old self.new) }
-        ensures keeps { Keeps SLI self.old self.new }
-        ensures peak { self.new.most_in_use ≡ peak_moved self.old name.at result self.new.heap }
-        ensures groups { InGroups (39 + 2 * (min (length (payload_of self.old.heap name)) len / 64)) self.old.touched self.new.touched }
+        ensures frame { Settles SLI (39 + 2 * (min (length (payload_of self.old.heap name)) len / 64)) (peak_moved self.old name.at result self.new.heap) self.old self.new result }
     {
         let own = self.check(name)?;
         self.refit_or_move_unset(name, own, len)
@@ -130,10 +120,7 @@ impl<const SLI: u32> Heap<SLI> {
     /// ```
     pub fn resize_or_move_unset_at(&mut self, at: u32, len: u32) -> Result<Name, Refusal>
         ensures moves { MovesUnsetAt resize_unset_touches move_unset_touches SLI len (seen self.old) (seen self.new) self.new.stored at result }
-        ensures err { OnErr result (IsAsBefore self.old self.new) }
-        ensures keeps { Keeps SLI self.old self.new }
-        ensures peak { self.new.most_in_use ≡ peak_moved self.old at result self.new.heap }
-        ensures groups { InGroups (39 + 2 * (kept_at self.old.heap at len / 64)) self.old.touched self.new.touched }
+        ensures frame { Settles SLI (39 + 2 * (kept_at self.old.heap at len / 64)) (peak_moved self.old at result self.new.heap) self.old self.new result }
     {
         match self.find_at(at) {
             None => Err(Refusal::Stale),
@@ -147,14 +134,10 @@ impl<const SLI: u32> Heap<SLI> {
         requires { IsNameCheck self.old.heap name (Ok own) }
         ensures answer { result ≡ (resized self.old.heap name len).answer }
         ensures heap { OnOk result (self.new.heap ≡ unset_from (resized self.old.heap name len).heap name self.new.stored (min (length (payload_of self.old.heap name)) len) len) }
-        ensures err { OnErr result (IsAsBefore self.old self.new) }
-        ensures keeps { Keeps SLI self.old self.new }
-        ensures peak { Peaks self.old self.new }
+        ensures frame { Settles SLI 15 (peak_of self.old self.new) self.old self.new result }
         ensures touches { self.new.touches ≤ self.old.touches + 27 }
-        ensures leaves { LeavesPayloads self.old.heap.blocks name.at self.old.touched self.new.touched }
-        ensures groups { InGroups 15 self.old.touched self.new.touched }
+        ensures others { SparesOthers name.at self.old self.new result }
         ensures refused_groups { OnErr result (InGroups 2 self.old.touched self.new.touched) }
-        ensures refused { OnErr result (LeavesLive self.old.heap.blocks self.old.touched self.new.touched) }
     {
         let kept = self.length(name).min(len);
         self.refit(name, own, want(len), kept, false)?;
@@ -168,14 +151,10 @@ impl<const SLI: u32> Heap<SLI> {
         requires { IsNameCheck self.old.heap name (Ok own) }
         ensures answer { result ≡ (resized_or_moved SLI self.old.heap name len).answer }
         ensures heap { IfOk result (λ new. self.new.heap ≡ unset_from (resized_or_moved SLI self.old.heap name len).heap new self.new.stored (min (length (payload_of self.old.heap name)) len) len) }
-        ensures err { OnErr result (IsAsBefore self.old self.new) }
-        ensures keeps { Keeps SLI self.old self.new }
-        ensures peak { self.new.most_in_use ≡ peak_moved self.old name.at result self.new.heap }
+        ensures frame { Settles SLI (37 + 2 * (min (length (payload_of self.old.heap name)) len / 64)) (peak_moved self.old name.at result self.new.heap) self.old self.new result }
         ensures touches { self.new.touches ≤ self.old.touches + 93 + 2 * (min (length (payload_of self.old.heap name)) len / 8) }
         ensures in_place { IsOk (resized self.old.heap name len).answer → self.new.touches ≤ self.old.touches + 27 }
-        ensures leaves { LeavesPayloads self.old.heap.blocks name.at self.old.touched self.new.touched }
-        ensures groups { InGroups (37 + 2 * (min (length (payload_of self.old.heap name)) len / 64)) self.old.touched self.new.touched }
-        ensures refused { OnErr result (LeavesLive self.old.heap.blocks self.old.touched self.new.touched) }
+        ensures others { SparesOthers name.at self.old self.new result }
     {
         match self.refit_unset(name, own, len) {
             Ok(()) => Ok(name),
@@ -189,13 +168,9 @@ impl<const SLI: u32> Heap<SLI> {
         requires { IsLive self.old.heap name }
         ensures answer { result ≡ (moved SLI self.old.heap name len).answer }
         ensures heap { IfOk result (λ new. self.new.heap ≡ unset_from (moved SLI self.old.heap name len).heap new self.new.stored (min (length (payload_of self.old.heap name)) len) len) }
-        ensures err { OnErr result (IsAsBefore self.old self.new) }
-        ensures keeps { Keeps SLI self.old self.new }
-        ensures peak { self.new.most_in_use ≡ peak_moved self.old name.at result self.new.heap }
+        ensures frame { Settles SLI (35 + 2 * (min (length (payload_of self.old.heap name)) len / 64)) (peak_moved self.old name.at result self.new.heap) self.old self.new result }
         ensures touches { self.new.touches ≤ self.old.touches + 66 + 2 * (min (length (payload_of self.old.heap name)) len / 8) }
-        ensures leaves { LeavesPayloads self.old.heap.blocks name.at self.old.touched self.new.touched }
-        ensures groups { InGroups (35 + 2 * (min (length (payload_of self.old.heap name)) len / 64)) self.old.touched self.new.touched }
-        ensures refused { OnErr result (LeavesLive self.old.heap.blocks self.old.touched self.new.touched) }
+        ensures others { SparesOthers name.at self.old self.new result }
     {
         if self.tick >= u64::MAX - 1 {
             return Err(Refusal::Worn);

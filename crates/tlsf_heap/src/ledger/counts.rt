@@ -1,11 +1,11 @@
-ghost use Rattle.std.specs.Prelude.{◌≡◌, ◌+◌, ◌≤◌, ◌↔◌, IfOk, OnErr, IsErrOf, ⊤};
+ghost use Rattle.std.specs.Prelude.{◌≡◌, ◌+◌, ◌≤◌, ◌↔◌, IfOk, IsErrOf, ⊤};
 ghost use Rattle.tlsf_class.specs.Classes.{IsLevel};
 ghost use Rattle.tlsf_heap.specs.Blocks;
 ghost use Rattle.tlsf_heap.specs.Calls.{opened, last_tick};
 ghost use Rattle.tlsf_heap.specs.Lawful.{IsRegion};
 ghost use Rattle.tlsf_heap.specs.Touched.{resize_touches};
 ghost use Rattle.tlsf_heap.specs.ledger.Grants.{AreCounts, IsCounted, TellsFit};
-ghost use Rattle.tlsf_heap.specs.ledger.Ledgers.{KeepsLedger, SameLedger};
+ghost use Rattle.tlsf_heap.specs.ledger.Ledgers.{NotesNothing};
 ghost use Rattle.tlsf_heap.specs.Effects.{Resizes, seen_by};
 
 use crate::heap::{Heap, want};
@@ -140,9 +140,7 @@ impl<const SLI: u32> Ledgered<SLI, Counts> {
     pub fn resize(&mut self, name: Name, len: u32) -> Result<(), Refusal>
         // Accepted or refused, and whatever the region holds.
         ensures resizes { Resizes resize_touches (Blocks.want len) len (seen_by self.old) (seen_by self.new) name result }
-        ensures ledger { self.new.ledger ≡ self.old.ledger }
-        ensures err { OnErr result (SameLedger self.old self.new) }
-        ensures keeps { KeepsLedger AreCounts self.old self.new }
+        ensures frame { NotesNothing AreCounts self.old self.new result }
     {
         self.heap.resize(name, len)
     }

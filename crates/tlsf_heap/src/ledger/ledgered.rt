@@ -1,13 +1,13 @@
 ghost use Rattle.std.specs.Fn.{FnOnceTakesAt, FnOnceTakesAtMut};
-ghost use Rattle.std.specs.Prelude.{◌≡◌, ℕ, List, ◌+◌, ◌≤◌, length, IfOk, OnOk, OnErr};
+ghost use Rattle.std.specs.Prelude.{◌≡◌, ℕ, List, ◌+◌, ◌≤◌, length, OnOk};
 ghost use Rattle.tlsf_heap.specs.Calls.{allocated_words};
-ghost use Rattle.tlsf_heap.specs.Effects.{Releases, seen_by, Allocates, AsksLive, ChecksBlocks, Looks, Reads, Reports, Writes};
+ghost use Rattle.tlsf_heap.specs.Effects.{Releases, seen_by, Allocates, AsksLive, ChecksBlocks, Looks, Reads, Reports, Writes, AltersInPlace, InspectsInPlace};
 ghost use Rattle.tlsf_heap.specs.Footprint.{LeavesLive};
 ghost use Rattle.tlsf_heap.specs.Given.{payload_words_given};
-ghost use Rattle.tlsf_heap.specs.InPlace.{ArePayload, Alters, Inspects, IsRefusedAsRead, payload_of};
+ghost use Rattle.tlsf_heap.specs.InPlace.{ArePayload, IsRefusedAsRead, payload_of};
 ghost use Rattle.tlsf_heap.specs.Laws.{IsLive};
-ghost use Rattle.tlsf_heap.specs.Touched.{FollowsNoForgery, allocate_touches, release_touches, read_touches, write_touches};
-ghost use Rattle.tlsf_heap.specs.ledger.Ledgers.{IsLedgered, KeepsLedger, SameLedger};
+ghost use Rattle.tlsf_heap.specs.Touched.{allocate_touches, release_touches, read_touches, write_touches};
+ghost use Rattle.tlsf_heap.specs.ledger.Ledgers.{IsLedgered, KeepsLedger, NotesIt, NotesNothing, ChangesNoLedger};
 ghost use Rattle.tlsf_heap.specs.Blocks.{want};
 
 use crate::checked::Checked;
@@ -114,9 +114,7 @@ impl<const SLI: u32, L: Ledger<SLI>> Ledgered<SLI, L> {
         // This comes to: when each refusal comes, and when it is a name.
         ensures tells { L.tells SLI self.old.heap self.old.ledger len result }
         ensures given { OnOk result (L.given self.old.ledger len self.new.ledger) }
-        ensures limits { L.same_limits self.old.ledger self.new.ledger }
-        ensures err { OnErr result (SameLedger self.old self.new) }
-        ensures keeps { KeepsLedger (L.holds SLI) self.old self.new }
+        ensures frame { NotesIt (L.holds SLI) L.same_limits self.old self.new result }
         ensures leaves { LeavesLive self.old.heap.blocks self.old.touched self.new.touched }
 
         // Admitted or not: at most this many touches, and one for each payload word of the block given. However many words the
@@ -154,9 +152,7 @@ impl<const SLI: u32, L: Ledger<SLI>> Ledgered<SLI, L> {
         // No more than 64 touches, whatever the ledger looks at.
         ensures touches { self.new.touches ≤ self.old.touches + 64 }
         ensures returned { OnOk result (L.returned self.old.ledger (length (payload_of self.old.heap name)) self.new.ledger) }
-        ensures limits { L.same_limits self.old.ledger self.new.ledger }
-        ensures err { OnErr result (SameLedger self.old self.new) }
-        ensures keeps { KeepsLedger (L.holds SLI) self.old self.new }
+        ensures frame { NotesIt (L.holds SLI) L.same_limits self.old self.new result }
     {
         L::laws();
         let seen = match L::look(&mut self.heap, name) {
@@ -183,9 +179,7 @@ impl<const SLI: u32, L: Ledger<SLI>> Ledgered<SLI, L> {
     /// ```
     pub fn write(&mut self, name: Name, at: u32, bytes: &[u8]) -> Result<(), Refusal>
         ensures writes { Writes (write_touches (length bytes.now)) (seen_by self.old) (seen_by self.new) name at bytes.now result }
-        ensures ledger { self.new.ledger ≡ self.old.ledger }
-        ensures err { OnErr result (SameLedger self.old self.new) }
-        ensures keeps { KeepsLedger (L.holds SLI) self.old self.new }
+        ensures frame { NotesNothing (L.holds SLI) self.old self.new result }
     {
         L::laws();
         self.heap.write(name, at, bytes)
@@ -205,8 +199,7 @@ impl<const SLI: u32, L: Ledger<SLI>> Ledgered<SLI, L> {
     /// ```
     pub fn read(&mut self, name: Name, at: u32, out: &mut [u8]) -> Result<(), Refusal>
         ensures reads { Reads (read_touches (length out.old)) (seen_by self.old) (seen_by self.new) name at out.old out.new result }
-        ensures same { SameLedger self.old self.new }
-        ensures keeps { KeepsLedger (L.holds SLI) self.old self.new }
+        ensures frame { ChangesNoLedger (L.holds SLI) self.old self.new }
     {
         self.heap.read(name, at, out)
     }
@@ -225,13 +218,8 @@ impl<const SLI: u32, L: Ledger<SLI>> Ledgered<SLI, L> {
     pub fn alter<R, F: FnOnce(&mut [u64]) -> R>(&mut self, name: Name, f: F) -> Result<R, Refusal>
         requires { IsLive self.old.heap name → (words : List ℕ) → ArePayload self.old.heap name words → FnOnceTakesAtMut F.FnOnce f words }
         ensures answer { IsRefusedAsRead self.old.heap name result }
-        ensures altered { IfOk result (λ r. Alters F.FnOnce f self.old.heap name r self.new.heap) }
-        ensures ledger { self.new.ledger ≡ self.old.ledger }
-        ensures err { OnErr result (SameLedger self.old self.new) }
-        ensures keeps { KeepsLedger (L.holds SLI) self.old self.new }
-        ensures leaves { LeavesLive self.old.heap.blocks self.old.touched self.new.touched }
-        ensures touches { self.new.touches ≤ self.old.touches + 4 }
-        ensures forged { FollowsNoForgery (seen_by self.old) (seen_by self.new) name }
+        ensures alters { AltersInPlace F.FnOnce f (seen_by self.old) (seen_by self.new) name result }
+        ensures frame { NotesNothing (L.holds SLI) self.old self.new result }
     {
         L::laws();
         self.heap.alter(name, f)
@@ -250,12 +238,8 @@ impl<const SLI: u32, L: Ledger<SLI>> Ledgered<SLI, L> {
     pub fn inspect<R, F: FnOnce(&[u64]) -> R>(&mut self, name: Name, f: F) -> Result<R, Refusal>
         requires { IsLive self.old.heap name → (words : List ℕ) → ArePayload self.old.heap name words → FnOnceTakesAt F.FnOnce f words }
         ensures answer { IsRefusedAsRead self.old.heap name result }
-        ensures inspected { IfOk result (λ r. Inspects F.FnOnce f self.old.heap name r) }
-        ensures same { SameLedger self.old self.new }
-        ensures keeps { KeepsLedger (L.holds SLI) self.old self.new }
-        ensures leaves { LeavesLive self.old.heap.blocks self.old.touched self.new.touched }
-        ensures touches { self.new.touches ≤ self.old.touches + 4 }
-        ensures forged { FollowsNoForgery (seen_by self.old) (seen_by self.new) name }
+        ensures inspects { InspectsInPlace F.FnOnce f (seen_by self.old) (seen_by self.new) name result }
+        ensures frame { ChangesNoLedger (L.holds SLI) self.old self.new }
     {
         self.heap.inspect(name, f)
     }
@@ -272,8 +256,7 @@ impl<const SLI: u32, L: Ledger<SLI>> Ledgered<SLI, L> {
 
         // The answer by the ledger.
         ensures tells { L.reports self.old.ledger result }
-        ensures same { SameLedger self.old self.new }
-        ensures keeps { KeepsLedger (L.holds SLI) self.old self.new }
+        ensures frame { ChangesNoLedger (L.holds SLI) self.old self.new }
     {
         L::laws();
         self.heap.report()
@@ -288,8 +271,7 @@ impl<const SLI: u32, L: Ledger<SLI>> Ledgered<SLI, L> {
     /// ```
     pub fn block_at(&mut self, at: u32) -> Option<PlacedBlock>
         ensures looks { Looks (seen_by self.old) (seen_by self.new) at result }
-        ensures same { SameLedger self.old self.new }
-        ensures keeps { KeepsLedger (L.holds SLI) self.old self.new }
+        ensures frame { ChangesNoLedger (L.holds SLI) self.old self.new }
     {
         self.heap.block_at(at)
     }
@@ -303,9 +285,8 @@ impl<const SLI: u32, L: Ledger<SLI>> Ledgered<SLI, L> {
     /// ```
     pub fn check_blocks(&mut self, from: u32, most: u32) -> Option<Checked>
         ensures checks { ChecksBlocks self.old.stored from most (seen_by self.old) (seen_by self.new) result }
-        ensures same { SameLedger self.old self.new }
+        ensures frame { ChangesNoLedger (L.holds SLI) self.old self.new }
         ensures stored { self.new.stored ≡ self.old.stored }
-        ensures keeps { KeepsLedger (L.holds SLI) self.old self.new }
     {
         self.heap.check_blocks(from, most)
     }
@@ -318,8 +299,7 @@ impl<const SLI: u32, L: Ledger<SLI>> Ledgered<SLI, L> {
     /// ```
     pub fn is_live(&mut self, name: Name) -> bool
         ensures asks { AsksLive (seen_by self.old) (seen_by self.new) name result }
-        ensures same { SameLedger self.old self.new }
-        ensures keeps { KeepsLedger (L.holds SLI) self.old self.new }
+        ensures frame { ChangesNoLedger (L.holds SLI) self.old self.new }
     {
         self.heap.is_live(name)
     }

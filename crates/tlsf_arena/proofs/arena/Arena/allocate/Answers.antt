@@ -15,7 +15,7 @@ replace_with-piece-requires g c =
     let mapped = subst (λ s. IsMapped g.row.SLI g.row.UNIT a.units s.heap a.space.free) (sym c.deref_mut.ensures.value) c.self.invariant.0 in
     let e = c.allocate_words.ensures in
     let got = carves g.row.SLI g.row.UNIT a.units c.deref_mut.result.now.heap c.allocate_words.new.self.heap a.space.free c.in_ok-name.name k c.grains_before.result c.bytes_of.result
-    mapped e.keeps.was_lawful c.grains_before.ensures.grains c.bytes_of.ensures.grains (sym c.in_ok-name.was ∙ e.allocates.answer_is ∙ ap (λ (j : ℕ). (allocated_words g.row.SLI c.deref_mut.result.now.heap k j).answer) c.lacking.ensures)
+    mapped e.frame.keeps.was_lawful c.grains_before.ensures.grains c.bytes_of.ensures.grains (sym c.in_ok-name.was ∙ e.allocates.answer_is ∙ ap (λ (j : ℕ). (allocated_words g.row.SLI c.deref_mut.result.now.heap k j).answer) c.lacking.ensures)
     (e.allocates.heap ∙ ap (λ (j : ℕ). (allocated_words g.row.SLI c.deref_mut.result.now.heap k j).heap) c.lacking.ensures) in
     (got.0, omega (arith, least, c.bytes_of.ensures.least), c.bytes_of.ensures.whole)
 
@@ -27,14 +27,14 @@ invariant_of-self-2 g c =
     let mapped = subst (λ s. IsMapped g.row.SLI g.row.UNIT a.units s.heap a.space.free) (sym c.deref_mut.ensures.value) c.self.invariant.0 in
     let e = c.allocate_words.ensures in
     let got = carves g.row.SLI g.row.UNIT a.units c.deref_mut.result.now.heap c.allocate_words.new.self.heap a.space.free c.in_ok-name.name k c.grains_before.result c.bytes_of.result
-    mapped e.keeps.was_lawful c.grains_before.ensures.grains c.bytes_of.ensures.grains (sym c.in_ok-name.was ∙ e.allocates.answer_is ∙ ap (λ (j : ℕ). (allocated_words g.row.SLI c.deref_mut.result.now.heap k j).answer) c.lacking.ensures)
+    mapped e.frame.keeps.was_lawful c.grains_before.ensures.grains c.bytes_of.ensures.grains (sym c.in_ok-name.was ∙ e.allocates.answer_is ∙ ap (λ (j : ℕ). (allocated_words g.row.SLI c.deref_mut.result.now.heap k j).answer) c.lacking.ensures)
     (e.allocates.heap ∙ ap (λ (j : ℕ). (allocated_words g.row.SLI c.deref_mut.result.now.heap k j).heap) c.lacking.ensures) in
     let lent = c.replace_with-piece.ensures in
     let book = subst (λ s. IsBook a.book.out s.heap) (sym c.deref_mut.ensures.value) c.self.invariant.3 in (
       got.1 c.replace_with-piece.new.dest.free lent.2,
       (lent.0 ∙ c.self.invariant.1.0, c.self.invariant.1.1),
       c.self.invariant.2 ∙ ap (λ s. s.heap.id) (sym c.deref_mut.ensures.value) ∙ sym (ap (λ (h : HeapState). h.id) e.allocates.heap ∙ ids_step g.row.SLI c.deref_mut.result.now.heap (Give k c.lacking.result)),
-      after_allocate g.row.SLI mapped.level c.deref_mut.result.now.heap c.allocate_words.new.self.heap k c.lacking.result c.in_ok-name.name a.book.out c.replace_with-right.new.dest.out book c.lacking.ensures (sym e.allocates.answer_is ∙ c.in_ok-name.was) e.allocates.heap e.keeps.lawful c.replace_with-right.ensures.1,
+      after_allocate g.row.SLI mapped.level c.deref_mut.result.now.heap c.allocate_words.new.self.heap k c.lacking.result c.in_ok-name.name a.book.out c.replace_with-right.new.dest.out book c.lacking.ensures (sym e.allocates.answer_is ∙ c.in_ok-name.was) e.allocates.heap e.frame.keeps.lawful c.replace_with-right.ensures.1,
     )
 
 pub replace_with-right-requires : goal.replace_with-right-requires
@@ -42,7 +42,7 @@ replace_with-right-requires g c =
     let a = c.self.inside in
     let e = c.allocate_words.ensures in
     let book = subst (λ s. IsBook a.book.out s.heap) (sym c.deref_mut.ensures.value) c.self.invariant.3 in
-    fresh_loan g.row.SLI c.deref_mut.result.now.heap c.units_of-units.result c.lacking.result c.in_ok-name.name a.book.out c.units_of-units.result e.keeps.was_lawful book (sym e.allocates.answer_is ∙ c.in_ok-name.was)
+    fresh_loan g.row.SLI c.deref_mut.result.now.heap c.units_of-units.result c.lacking.result c.in_ok-name.name a.book.out c.units_of-units.result e.frame.keeps.was_lawful book (sym e.allocates.answer_is ∙ c.in_ok-name.was)
 
 pub returns-clause-holds : goal.returns-clause-holds
 returns-clause-holds g c =
@@ -53,7 +53,7 @@ returns-clause-holds g c =
     let e = c.allocate_words.ensures in
     let gives = sym (ap (λ (j : ℕ). (allocated_words sli heap k j).answer) c.lacking.ensures) ∙ sym e.allocates.answer_is ∙ c.in_ok-name.was in
     let left = e.allocates.heap ∙ ap (λ (j : ℕ). (allocated_words sli heap k j).heap) c.lacking.ensures in
-    let holds = holds_given sli c.self.invariant.0.level heap k (lacking k) name (lacks k) gives (subst IsLawful left e.keeps.lawful) in
+    let holds = holds_given sli c.self.invariant.0.level heap k (lacking k) name (lacks k) gives (subst IsLawful left e.frame.keeps.lawful) in
     subst (λ (p : HeapState × ℕ). Holds p.0 name p.1) (λ i. (sym left i, c.units_of-units.ensures.units i)) holds
 
 pub returns-clause-others : goal.returns-clause-others
@@ -61,5 +61,5 @@ returns-clause-others g c = λ other units holds.
     let heap = c.deref_mut.result.now.heap in
     let same : heap ≡ c.args.self.now.heap = ap (λ s. s.heap) c.deref_mut.ensures.value ∙ ap (λ s. s.heap) c.self.view_is in
     let e = c.allocate_words.ensures in
-    kept g.row.SLI heap c.allocate_words.new.self.heap other units (Give c.units_of-units.result c.lacking.result) tt e.allocates.heap e.keeps.lawful
+    kept g.row.SLI heap c.allocate_words.new.self.heap other units (Give c.units_of-units.result c.lacking.result) tt e.allocates.heap e.frame.keeps.lawful
     (subst (λ (h : HeapState). Holds h other units) (sym same) holds)

@@ -21,7 +21,7 @@ replace_with-rest-requires g c =
     let mapped = subst (λ s. IsMapped g.row.SLI u a.units s.heap a.space.free) (sym value) c.self.invariant.0 in
     let live = subst (λ (m : Name). Holds heap m (units_of t)) c.requires.loan.0 (book t known.2) in
     let e = c.resize_words.ensures in
-    let got = extends g.row.SLI u a.units heap c.resize_words.new.self.heap a.space.free name (units_of t) n mapped e.keeps.was_lawful (held_of heap name (units_of t) live.0 e.keeps.was_lawful live.2 live.3)
+    let got = extends g.row.SLI u a.units heap c.resize_words.new.self.heap a.space.free name (units_of t) n mapped e.frame.keeps.was_lawful (held_of heap name (units_of t) live.0 e.frame.keeps.was_lawful live.2 live.3)
     (sym c.in_default.is ∙ e.resizes.answer_is ∙ ap (λ (j : ℕ). (resized_words heap name n j).answer) c.lacking.ensures) (e.resizes.heap ∙ ap (λ (j : ℕ). (resized_words heap name n j).heap) c.lacking.ensures)
     c.grains_before.result c.bytes_of.result c.args.size c.grains_before.ensures.grains c.bytes_of.ensures.bytes c.requires.loan.1
     (subst (λ (j : ℕ). c.args.size < j) (ap (λ (j : ℕ). u * j) (sym c.units_of-units.ensures.units) ∙ sym c.bytes_of.ensures.bytes) c.requires.longer) in
@@ -55,7 +55,7 @@ invariant_of-self-2 g c =
     let mapped = subst (λ s. IsMapped g.row.SLI u a.units s.heap a.space.free) (sym value) c.self.invariant.0 in
     let live = subst (λ (m : Name). Holds heap m (units_of t)) c.requires.loan.0 (book t known.2) in
     let e = c.resize_words.ensures in
-    let got = extends g.row.SLI u a.units heap c.resize_words.new.self.heap a.space.free name (units_of t) n mapped e.keeps.was_lawful (held_of heap name (units_of t) live.0 e.keeps.was_lawful live.2 live.3)
+    let got = extends g.row.SLI u a.units heap c.resize_words.new.self.heap a.space.free name (units_of t) n mapped e.frame.keeps.was_lawful (held_of heap name (units_of t) live.0 e.frame.keeps.was_lawful live.2 live.3)
     (sym c.in_default.is ∙ e.resizes.answer_is ∙ ap (λ (j : ℕ). (resized_words heap name n j).answer) c.lacking.ensures) (e.resizes.heap ∙ ap (λ (j : ℕ). (resized_words heap name n j).heap) c.lacking.ensures)
     c.grains_before.result c.bytes_of.result c.args.size c.grains_before.ensures.grains c.bytes_of.ensures.bytes c.requires.loan.1
     (subst (λ (j : ℕ). c.args.size < j) (ap (λ (j : ℕ). u * j) (sym c.units_of-units.ensures.units) ∙ sym c.bytes_of.ensures.bytes) c.requires.longer) in
@@ -64,7 +64,7 @@ invariant_of-self-2 g c =
       got.1 c.replace_with-rest.new.dest.free lent.2,
       (lent.0 ∙ c.self.invariant.1.0, c.self.invariant.1.1),
       c.self.invariant.2 ∙ ap (λ s. s.heap.id) (sym value) ∙ sym (ap (λ (h : HeapState). h.id) e.resizes.heap ∙ ids_step 0 heap (Fit name n c.lacking.result)),
-      after_resize heap c.resize_words.new.self.heap name t n c.lacking.result a.book.out c.replace_with-right-2.new.dest.out book known.2 c.requires.loan.0 c.lacking.ensures (sym (sym c.in_default.is ∙ e.resizes.answer_is)) e.resizes.heap e.keeps.lawful left,
+      after_resize heap c.resize_words.new.self.heap name t n c.lacking.result a.book.out c.replace_with-right-2.new.dest.out book known.2 c.requires.loan.0 c.lacking.ensures (sym (sym c.in_default.is ∙ e.resizes.answer_is)) e.resizes.heap e.frame.keeps.lawful left,
     )
 
 pub returns-clause-others : goal.returns-clause-others
@@ -72,4 +72,4 @@ returns-clause-others g c = λ other units apart holds.
     let heap = c.deref_mut.result.now.heap in
     let same : heap ≡ c.args.self.now.heap = ap (λ s. s.heap) c.deref_mut.ensures.value ∙ ap (λ s. s.heap) c.self.view_is in
     let e = c.resize_words.ensures in
-    stays_resized heap c.resize_words.new.self.heap other c.args.name units e.keeps.lawful apart (subst (λ (h : HeapState). Holds h other units) (sym same) holds) c.units_of-units.result c.lacking.result e.resizes.heap
+    stays_resized heap c.resize_words.new.self.heap other c.args.name units e.frame.keeps.lawful apart (subst (λ (h : HeapState). Holds h other units) (sym same) holds) c.units_of-units.result c.lacking.result e.resizes.heap

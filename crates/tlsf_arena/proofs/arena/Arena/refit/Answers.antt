@@ -26,7 +26,7 @@ replace_with-requires g c =
     let place : grain_of a.space.region piece.at ≡ u / 16 * name.at = first_grain u a.space.region.start piece.at name.at mapped.unit (c.requires.place ∙ ap (λ r. r.start + u * name.at) region) in
     let long : piece.size / 16 ≡ u / 16 * units_of t = omega (arith, c.requires.loan.1, grains_of u (units_of t) mapped.unit) in
     let got = refits g.row.SLI u a.units heap c.resize_words.new.self.heap a.space.free name (units_of t) n (grain_of a.space.region piece.at) piece.size (u / 16 * name.at) (16 * (u / 16 * n))
-    mapped e.keeps.was_lawful (held_of heap name (units_of t) live.0 e.keeps.was_lawful live.2 live.3)
+    mapped e.frame.keeps.was_lawful (held_of heap name (units_of t) live.0 e.frame.keeps.was_lawful live.2 live.3)
     (sym c.in-Ok.is ∙ e.resizes.answer_is ∙ ap (λ (j : ℕ). (resized_words heap name n j).answer) c.lacking.ensures) (e.resizes.heap ∙ ap (λ (j : ℕ). (resized_words heap name n j).heap) c.lacking.ensures) place long
     refl (omega arith) in
     (region, got.0)
@@ -50,7 +50,7 @@ replace_with-piece-requires g c =
     let place : grain_of a.space.region piece.at ≡ u / 16 * name.at = first_grain u a.space.region.start piece.at name.at mapped.unit (c.requires.place ∙ ap (λ r. r.start + u * name.at) region) in
     let long : piece.size / 16 ≡ u / 16 * units_of t = omega (arith, c.requires.loan.1, grains_of u (units_of t) mapped.unit) in
     let got = refits g.row.SLI u a.units heap c.resize_words.new.self.heap a.space.free name (units_of t) n (grain_of a.space.region piece.at) piece.size c.grains_before-at.result c.bytes_of-size.result
-    mapped e.keeps.was_lawful (held_of heap name (units_of t) live.0 e.keeps.was_lawful live.2 live.3)
+    mapped e.frame.keeps.was_lawful (held_of heap name (units_of t) live.0 e.frame.keeps.was_lawful live.2 live.3)
     (sym c.in-Ok.is ∙ e.resizes.answer_is ∙ ap (λ (j : ℕ). (resized_words heap name n j).answer) c.lacking.ensures) (e.resizes.heap ∙ ap (λ (j : ℕ). (resized_words heap name n j).heap) c.lacking.ensures) place long
     c.grains_before-at.ensures.grains c.bytes_of-size.ensures.grains in
     let opened = got.1 c.replace_with.new.dest.free c.replace_with.ensures.2 in
@@ -89,7 +89,7 @@ invariant_of-self g c =
     let place : grain_of a.space.region piece.at ≡ u / 16 * name.at = first_grain u a.space.region.start piece.at name.at mapped.unit (c.requires.place ∙ ap (λ r. r.start + u * name.at) region) in
     let long : piece.size / 16 ≡ u / 16 * units_of t = omega (arith, c.requires.loan.1, grains_of u (units_of t) mapped.unit) in
     let got = refits g.row.SLI u a.units heap c.resize_words.new.self.heap a.space.free name (units_of t) n (grain_of a.space.region piece.at) piece.size c.grains_before-at.result c.bytes_of-size.result
-    mapped e.keeps.was_lawful (held_of heap name (units_of t) live.0 e.keeps.was_lawful live.2 live.3)
+    mapped e.frame.keeps.was_lawful (held_of heap name (units_of t) live.0 e.frame.keeps.was_lawful live.2 live.3)
     (sym c.in-Ok.is ∙ e.resizes.answer_is ∙ ap (λ (j : ℕ). (resized_words heap name n j).answer) c.lacking.ensures) (e.resizes.heap ∙ ap (λ (j : ℕ). (resized_words heap name n j).heap) c.lacking.ensures) place long
     c.grains_before-at.ensures.grains c.bytes_of-size.ensures.grains in
     let opened = got.1 c.replace_with.new.dest.free c.replace_with.ensures.2 in
@@ -98,5 +98,5 @@ invariant_of-self g c =
       opened.1 c.replace_with-piece.new.dest.free lent.2,
       (lent.0 ∙ c.replace_with.ensures.0 ∙ c.self.invariant.1.0, c.self.invariant.1.1),
       c.self.invariant.2 ∙ ap (λ s. s.heap.id) (sym value) ∙ sym (ap (λ (h : HeapState). h.id) e.resizes.heap ∙ ids_step 0 heap (Fit name n c.lacking.result)),
-      after_resize heap c.resize_words.new.self.heap name t n c.lacking.result a.book.out c.replace_with-right-in-Ok.new.dest.out book known.2 c.requires.loan.0 c.lacking.ensures (sym (sym c.in-Ok.is ∙ e.resizes.answer_is)) e.resizes.heap e.keeps.lawful left,
+      after_resize heap c.resize_words.new.self.heap name t n c.lacking.result a.book.out c.replace_with-right-in-Ok.new.dest.out book known.2 c.requires.loan.0 c.lacking.ensures (sym (sym c.in-Ok.is ∙ e.resizes.answer_is)) e.resizes.heap e.frame.keeps.lawful left,
     )

@@ -24,7 +24,7 @@ replace_with-requires g c =
     let e = c.resize_words.ensures in
     let region = c.requires.region ∙ sym (ap (λ s. s.region) c.self.view_is) in
     let wanted : piece_size u c.args.len ≡ u * n = ap (λ (j : ℕ). u * j) (sym c.units_of-units.ensures.units) in
-    let got = shortens g.row.SLI u a.units heap c.resize_words.new.self.heap a.space.free name (units_of t) n mapped e.keeps.was_lawful (held_of heap name (units_of t) live.0 e.keeps.was_lawful live.2 live.3)
+    let got = shortens g.row.SLI u a.units heap c.resize_words.new.self.heap a.space.free name (units_of t) n mapped e.frame.keeps.was_lawful (held_of heap name (units_of t) live.0 e.frame.keeps.was_lawful live.2 live.3)
     (sym c.in_default.is ∙ e.resizes.answer_is ∙ ap (λ (j : ℕ). (resized_words heap name n j).answer) c.lacking.ensures) (e.resizes.heap ∙ ap (λ (j : ℕ). (resized_words heap name n j).heap) c.lacking.ensures)
     a.space.region.start tail.at tail.size (c.requires.place ∙ ap (λ r. r.start + u * name.at + piece_size u c.args.len) region ∙ ap (λ (j : ℕ). a.space.region.start + u * name.at + j) wanted) (sym c.requires.loan.1 ∙ ap (λ (j : ℕ). j + tail.size) wanted) in
     (region, got.0)
@@ -60,7 +60,7 @@ invariant_of-self-2 g c =
     let e = c.resize_words.ensures in
     let region = c.requires.region ∙ sym (ap (λ s. s.region) c.self.view_is) in
     let wanted : piece_size u c.args.len ≡ u * n = ap (λ (j : ℕ). u * j) (sym c.units_of-units.ensures.units) in
-    let got = shortens g.row.SLI u a.units heap c.resize_words.new.self.heap a.space.free name (units_of t) n mapped e.keeps.was_lawful (held_of heap name (units_of t) live.0 e.keeps.was_lawful live.2 live.3)
+    let got = shortens g.row.SLI u a.units heap c.resize_words.new.self.heap a.space.free name (units_of t) n mapped e.frame.keeps.was_lawful (held_of heap name (units_of t) live.0 e.frame.keeps.was_lawful live.2 live.3)
     (sym c.in_default.is ∙ e.resizes.answer_is ∙ ap (λ (j : ℕ). (resized_words heap name n j).answer) c.lacking.ensures) (e.resizes.heap ∙ ap (λ (j : ℕ). (resized_words heap name n j).heap) c.lacking.ensures)
     a.space.region.start tail.at tail.size (c.requires.place ∙ ap (λ r. r.start + u * name.at + piece_size u c.args.len) region ∙ ap (λ (j : ℕ). a.space.region.start + u * name.at + j) wanted) (sym c.requires.loan.1 ∙ ap (λ (j : ℕ). j + tail.size) wanted) in
     let back = c.replace_with.ensures in
@@ -68,7 +68,7 @@ invariant_of-self-2 g c =
       got.1 c.replace_with.new.dest.free back.2,
       (back.0 ∙ c.self.invariant.1.0, c.self.invariant.1.1),
       c.self.invariant.2 ∙ ap (λ s. s.heap.id) (sym value) ∙ sym (ap (λ (h : HeapState). h.id) e.resizes.heap ∙ ids_step 0 heap (Fit name n c.lacking.result)),
-      after_resize heap c.resize_words.new.self.heap name t n c.lacking.result a.book.out c.replace_with-2.new.dest.out book known.2 c.requires.loan.0 c.lacking.ensures (sym (sym c.in_default.is ∙ e.resizes.answer_is)) e.resizes.heap e.keeps.lawful left,
+      after_resize heap c.resize_words.new.self.heap name t n c.lacking.result a.book.out c.replace_with-2.new.dest.out book known.2 c.requires.loan.0 c.lacking.ensures (sym (sym c.in_default.is ∙ e.resizes.answer_is)) e.resizes.heap e.frame.keeps.lawful left,
     )
 
 pub returns-clause-others : goal.returns-clause-others
@@ -76,4 +76,4 @@ returns-clause-others g c = λ other units apart holds.
     let heap = c.deref_mut.result.now.heap in
     let same : heap ≡ c.args.self.now.heap = ap (λ s. s.heap) c.deref_mut.ensures.value ∙ ap (λ s. s.heap) c.self.view_is in
     let e = c.resize_words.ensures in
-    stays_resized heap c.resize_words.new.self.heap other c.args.name units e.keeps.lawful apart (subst (λ (h : HeapState). Holds h other units) (sym same) holds) c.units_of-units.result c.lacking.result e.resizes.heap
+    stays_resized heap c.resize_words.new.self.heap other c.args.name units e.frame.keeps.lawful apart (subst (λ (h : HeapState). Holds h other units) (sym same) holds) c.units_of-units.result c.lacking.result e.resizes.heap

@@ -9,7 +9,7 @@ pub returns-clause-counts : goal.returns-clause-counts
 returns-clause-counts g c =
     let e = c.allocate_words-answer.ensures in
     ap (λ (r : Refused). counts_of c.allocate_words-answer.new.self.heap c.allocate_words-answer.new.self.most_in_use r) c.note.ensures
-    ∙ requested c.args.heap.now c.allocate_words-answer.new.self c.args.self.now c.allocate_words-answer.result c.args.len e.peak e.err
+    ∙ requested c.args.heap.now c.allocate_words-answer.new.self c.args.self.now c.allocate_words-answer.result c.args.len e.frame.peak e.frame.err
 
 pub returns-clause-allocates : goal.returns-clause-allocates
 returns-clause-allocates g c =

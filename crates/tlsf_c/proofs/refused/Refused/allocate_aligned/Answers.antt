@@ -8,4 +8,4 @@ pub returns-clause-counts : goal.returns-clause-counts
 returns-clause-counts g c =
     let e = c.allocate_aligned-answer.ensures in
     ap (λ (r : Refused). counts_of c.allocate_aligned-answer.new.self.heap c.allocate_aligned-answer.new.self.most_in_use r) c.note.ensures
-    ∙ requested c.args.heap.now c.allocate_aligned-answer.new.self c.args.self.now c.allocate_aligned-answer.result c.args.len e.peak e.err
+    ∙ requested c.args.heap.now c.allocate_aligned-answer.new.self c.args.self.now c.allocate_aligned-answer.result c.args.len e.frame.peak e.frame.err

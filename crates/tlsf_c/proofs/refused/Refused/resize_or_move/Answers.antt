@@ -8,4 +8,4 @@ pub returns-clause-counts : goal.returns-clause-counts
 returns-clause-counts g c =
     let e = c.resize_or_move-answer.ensures in
     ap (λ (r : Refused). counts_of c.resize_or_move-answer.new.self.heap c.resize_or_move-answer.new.self.most_in_use r) c.note.ensures
-    ∙ moved c.args.heap.now c.resize_or_move-answer.new.self c.args.self.now c.args.name.at c.resize_or_move-answer.result c.args.len e.peak e.keeps.reached e.err
+    ∙ moved c.args.heap.now c.resize_or_move-answer.new.self c.args.self.now c.args.name.at c.resize_or_move-answer.result c.args.len e.frame.peak e.frame.keeps.reached e.frame.err

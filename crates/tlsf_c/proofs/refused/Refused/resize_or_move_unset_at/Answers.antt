@@ -8,4 +8,4 @@ pub returns-clause-counts : goal.returns-clause-counts
 returns-clause-counts g c =
     let e = c.resize_or_move_unset_at-answer.ensures in
     ap (λ (r : Refused). counts_of c.resize_or_move_unset_at-answer.new.self.heap c.resize_or_move_unset_at-answer.new.self.most_in_use r) c.note.ensures
-    ∙ moved c.args.heap.now c.resize_or_move_unset_at-answer.new.self c.args.self.now c.args.at c.resize_or_move_unset_at-answer.result c.args.len e.peak e.keeps.reached e.err
+    ∙ moved c.args.heap.now c.resize_or_move_unset_at-answer.new.self c.args.self.now c.args.at c.resize_or_move_unset_at-answer.result c.args.len e.frame.peak e.frame.keeps.reached e.frame.err

@@ -7,4 +7,4 @@ returns-clause-released g c =
     (ap (λ x. Some (record { from = c.args.post.from; name = c.args.post.name; answer = x })) e.answer_is, rw (← e.answer_is) e, (refl, refl))
 
 pub returns-clause-stays : goal.returns-clause-stays
-returns-clause-stays g c = (c.release-answer.ensures.keeps.stays, refl)
+returns-clause-stays g c = (c.release-answer.ensures.frame.keeps.stays, refl)

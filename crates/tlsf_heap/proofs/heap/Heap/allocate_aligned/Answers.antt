@@ -4,11 +4,11 @@ use Rattle.tlsf_heap.specs.Unset.{GivesUnset}
 use Rattle.tlsf_class.proofs.TwoLevels.{most_words_any}
 use Rattle.tlsf_heap.proofs.lemmas.calls.AllocateAligned.{IsAligned, has_live, has_room, none_fits, aligned_past, first_moves, first_moved, gives_name, gives_payload, gives_others}
 use Rattle.tlsf_heap.proofs.lemmas.blocks.Sites.{fits_nothing}
-use Rattle.tlsf_heap.proofs.lemmas.calls.Kept.{keeps_same}
 use Rattle.tlsf_heap.proofs.lemmas.laws.WordsInUse.{words_set}
 use Rattle.tlsf_heap.proofs.lemmas.calls.Leaves.{moved_word, given_word}
-use Rattle.tlsf_words.proofs.Touching.{no_groups, more_groups, groups_then}
+use Rattle.tlsf_words.proofs.Touching.{more_groups, groups_then}
 use Rattle.tlsf_heap.proofs.heap.Heap.allocate_aligned.Given.{Over}
+use Rattle.tlsf_heap.proofs.lemmas.calls.Frames.{found_none, same_peak, settles_found}
 use Rattle.tlsf_heap.proofs.heap.Heap.allocate_aligned.Goals as goal
 
 pub returns-then-self-clause-allocates : goal.returns-then-self-clause-allocates
@@ -24,8 +24,10 @@ returns-then-self-clause-allocates g c =
       leaves = search rules;
     }
 
-pub returns-then-self-clause-keeps : goal.returns-then-self-clause-keeps
-returns-then-self-clause-keeps g c = keeps_same g.row.SLI c.self.inside c.self.view_is c.self.invariant
+pub returns-then-self-clause-frame : goal.returns-then-self-clause-frame
+returns-then-self-clause-frame g c =
+    let look = found_none g.row.SLI c.self.inside c.self.view_is c.self.invariant in
+    settles_found (omega arith) (same_peak look.same look.keeps) look
 
 -- ---- no region has so many words
 
@@ -66,8 +68,10 @@ returns-then-step-most_words-clause-allocates g c =
       leaves = search rules;
     }
 
-pub returns-then-step-most_words-clause-keeps : goal.returns-then-step-most_words-clause-keeps
-returns-then-step-most_words-clause-keeps g c = keeps_same g.row.SLI c.self.inside c.self.view_is c.self.invariant
+pub returns-then-step-most_words-clause-frame : goal.returns-then-step-most_words-clause-frame
+returns-then-step-most_words-clause-frame g c =
+    let look = found_none g.row.SLI c.self.inside c.self.view_is c.self.invariant in
+    settles_found (omega arith) (same_peak look.same look.keeps) look
 
 pub returns-in-Err-clause-allocates : goal.returns-in-Err-clause-allocates
 returns-in-Err-clause-allocates g c =
@@ -92,12 +96,12 @@ move_on-requires g c =
     let lawful = subst IsLawful view c.self.invariant.lawful in
     let left : h.tick + 3 < last_tick = omega (arith, ap (λ (s : HeapState). s.tick) view, c.if-self.false) in
     let least : 4 ≤ c.want-words.result = omega (arith, c.want-words.ensures) in
-    let moves = first_moves g.row.SLI c.self.invariant.level h c.want-words.result c.max-step.result c.args.skew lawful left (omega (arith, c.max-step.ensures)) least a c.in-Ok.first c.gap-gap.result c.allocate_words.ensures.allocates.heap c.in-Ok.ensures.allocates.answer_is c.allocate_words.ensures.keeps.lawful c.gap-gap.ensures in (
+    let moves = first_moves g.row.SLI c.self.invariant.level h c.want-words.result c.max-step.result c.args.skew lawful left (omega (arith, c.max-step.ensures)) least a c.in-Ok.first c.gap-gap.result c.allocate_words.ensures.allocates.heap c.in-Ok.ensures.allocates.answer_is c.allocate_words.ensures.frame.keeps.lawful c.gap-gap.ensures in (
       omega arith,
       (
         has_live a c.in-Ok.first (c.gap-gap.result + c.want-words.result) moves.has,
         (
-          has_room a c.in-Ok.first (c.gap-gap.result + c.want-words.result) c.allocate_words.ensures.keeps.lawful moves.has,
+          has_room a c.in-Ok.first (c.gap-gap.result + c.want-words.result) c.allocate_words.ensures.frame.keeps.lawful moves.has,
           (least, (moves.front, (moves.left, omega (arith, moves.words, ap (λ (s : HeapState). s.words) view, c.self.invariant.small, most_words_any g.row.SLI)))),
         ),
       ),
@@ -113,7 +117,7 @@ set_length-requires g c =
     let view = ap (λ (s : Shown). s.heap) c.self.view_is in
     let lawful = subst IsLawful view c.self.invariant.lawful in
     let left : h.tick + 3 < last_tick = omega (arith, ap (λ (s : HeapState). s.tick) view, c.if-self.false) in
-    let done = first_moved g.row.SLI c.self.invariant.level h c.want-words.result c.max-step.result c.args.skew lawful left (omega (arith, c.max-step.ensures)) (omega (arith, c.want-words.ensures)) a c.in-Ok.first c.gap-gap.result c.allocate_words.ensures.allocates.heap c.in-Ok.ensures.allocates.answer_is c.allocate_words.ensures.keeps.lawful c.gap-gap.ensures
+    let done = first_moved g.row.SLI c.self.invariant.level h c.want-words.result c.max-step.result c.args.skew lawful left (omega (arith, c.max-step.ensures)) (omega (arith, c.want-words.ensures)) a c.in-Ok.first c.gap-gap.result c.allocate_words.ensures.allocates.heap c.in-Ok.ensures.allocates.answer_is c.allocate_words.ensures.frame.keeps.lawful c.gap-gap.ensures
     m c.in_ok-name.name c.move_on.ensures.heap c.in_ok-name.ensures.answer in
     let has = done.gives.has in
     let room = has_room m c.in_ok-name.name c.want-words.result c.move_on.ensures.keeps.lawful has in
@@ -126,7 +130,7 @@ done g c =
     let view = ap (λ (s : Shown). s.heap) c.self.view_is in
     let lawful = subst IsLawful view c.self.invariant.lawful in
     let left : h.tick + 3 < last_tick = omega (arith, ap (λ (s : HeapState). s.tick) view, c.if-self.false) in
-    first_moved g.row.SLI c.self.invariant.level h c.want-words.result c.max-step.result c.args.skew lawful left (omega (arith, c.max-step.ensures)) (omega (arith, c.want-words.ensures)) a c.in-Ok.first c.gap-gap.result c.allocate_words.ensures.allocates.heap c.in-Ok.ensures.allocates.answer_is c.allocate_words.ensures.keeps.lawful c.gap-gap.ensures
+    first_moved g.row.SLI c.self.invariant.level h c.want-words.result c.max-step.result c.args.skew lawful left (omega (arith, c.max-step.ensures)) (omega (arith, c.want-words.ensures)) a c.in-Ok.first c.gap-gap.result c.allocate_words.ensures.allocates.heap c.in-Ok.ensures.allocates.answer_is c.allocate_words.ensures.frame.keeps.lawful c.gap-gap.ensures
     c.move_on.new.self.heap c.in_ok-name.name c.move_on.ensures.heap c.in_ok-name.ensures.answer
 
 -- the name is live, with the bytes that lie there
@@ -136,7 +140,7 @@ given g c =
     let h = c.args.self.now.heap in
     let name = c.in_ok-name.name in
     let bytes = lying c.set_length.new.self.stored name.at c.args.len in
-    let lawful = c.allocate_words.ensures.keeps.was_lawful in
+    let lawful = c.allocate_words.ensures.frame.keeps.was_lawful in
     let is = c.set_length.ensures.heap ∙ ap (λ (s : HeapState). with_payload s name bytes) c.set_most_in_use.ensures.heap in
     record {
       heap = is ∙ ap (λ (s : HeapState). with_payload s name bytes) (rw (c.want-words.ensures, c.max-step.ensures) at (done g c).is_heap);
@@ -151,7 +155,7 @@ left_alone g c k live =
     let h = c.args.self.now.heap in
     let first = c.in-Ok.first in
     let e = c.allocate_words.ensures in
-    let given = given_word h (suc live.1) k (live.0, live.1, live.2, live.3, λ e. omega (arith, e)) g.row.SLI _ 0 e.keeps.was_lawful first (sym e.allocates.answer_is ∙ c.in-Ok.is) in
+    let given = given_word h (suc live.1) k (live.0, live.1, live.2, live.3, λ e. omega (arith, e)) g.row.SLI _ 0 e.frame.keeps.was_lawful first (sym e.allocates.answer_is ∙ c.in-Ok.is) in
     let left = subst (λ (s : HeapState). IsOthersWord s.blocks first.at k) (sym e.allocates.heap) given in
     let after = subst (λ (s : HeapState). IsLiveWord s.blocks k) (sym (c.set_most_in_use.ensures.heap ∙ c.move_on.ensures.heap)) (moved_word c.allocate_words.new.self.heap first c.gap-gap.result c.want-words.result k left) in
     c.set_length.ensures.leaves k after ∙ ap (λ (l : List ℕ). times l k) c.set_most_in_use.ensures.touched ∙ c.move_on.ensures.leaves k left ∙ e.allocates.leaves k live
@@ -169,10 +173,15 @@ returns-clause-allocates g c =
       leaves = left_alone g c;
     }
 
-pub returns-clause-peak : goal.returns-clause-peak
-returns-clause-peak g c =
-    let bytes = lying c.set_length.new.self.stored c.in_ok-name.name.at c.args.len in
-    omega (arith, ap (λ (s : Shown). s.most_in_use) c.self.view_is, ap words_in_use c.set_length.ensures.heap, (words_set g.row.SLI c.set_most_in_use.new.self.heap (Fill c.in_ok-name.name bytes) tt).0, c.set_most_in_use.ensures.most, c.set_length.ensures.most)
+pub returns-clause-frame : goal.returns-clause-frame
+returns-clause-frame g c = record {
+  err = search rules;
+  keeps = search rules;
+  peak =
+      let bytes = lying c.set_length.new.self.stored c.in_ok-name.name.at c.args.len in
+      omega (arith, ap (λ (s : Shown). s.most_in_use) c.self.view_is, ap words_in_use c.set_length.ensures.heap, (words_set g.row.SLI c.set_most_in_use.new.self.heap (Fill c.in_ok-name.name bytes) tt).0, c.set_most_in_use.ensures.most, c.set_length.ensures.frame.most);
+  groups = more_groups (omega arith) (groups_then (groups_then c.allocate_words.ensures.frame.groups c.move_on.ensures.groups) (rw c.set_most_in_use.ensures.touched at c.set_length.ensures.frame.groups));
+}
 
 -- ---- the move is never refused
 
@@ -191,17 +200,8 @@ returns-in_err-name-clause-allocates g c =
 
 -- ---- groups of eight words
 
-pub returns-then-self-clause-groups : goal.returns-then-self-clause-groups
-returns-then-self-clause-groups g c = more_groups (omega arith) (no_groups {old = c.args.self.now.touched} refl)
+pub returns-in-Err-clause-frame : goal.returns-in-Err-clause-frame
+returns-in-Err-clause-frame g c = record { err = search rules; keeps = search rules; peak = search rules; groups = more_groups (omega arith) c.allocate_words.ensures.frame.groups }
 
-pub returns-then-step-most_words-clause-groups : goal.returns-then-step-most_words-clause-groups
-returns-then-step-most_words-clause-groups g c = more_groups (omega arith) (no_groups {old = c.args.self.now.touched} refl)
-
-pub returns-in-Err-clause-groups : goal.returns-in-Err-clause-groups
-returns-in-Err-clause-groups g c = more_groups (omega arith) c.allocate_words.ensures.groups
-
-pub returns-in_err-name-clause-groups : goal.returns-in_err-name-clause-groups
-returns-in_err-name-clause-groups g c = more_groups (omega arith) (groups_then c.allocate_words.ensures.groups c.move_on.ensures.groups)
-
-pub returns-clause-groups : goal.returns-clause-groups
-returns-clause-groups g c = more_groups (omega arith) (groups_then (groups_then c.allocate_words.ensures.groups c.move_on.ensures.groups) (rw c.set_most_in_use.ensures.touched at c.set_length.ensures.groups))
+pub returns-in_err-name-clause-frame : goal.returns-in_err-name-clause-frame
+returns-in_err-name-clause-frame g c = record { err = search rules; keeps = search rules; peak = search rules; groups = more_groups (omega arith) (groups_then c.allocate_words.ensures.frame.groups c.move_on.ensures.groups) }

@@ -16,7 +16,7 @@ set_length-requires g c =
     let h = c.args.self.now.heap in
     let k = c.words_from.new.self.heap in
     let gives : Gives h k c.in-Ok.name c.want.result = subst (λ (s : HeapState). Gives h s c.in-Ok.name c.want.result) (sym c.words_from.ensures.heap) (from_gives h c.args.at c.want.result c.in-Ok.name c.in-Ok.ensures.answer) in
-    let room = has_room k c.in-Ok.name c.want.result c.words_from.ensures.keeps.lawful gives.has in
+    let room = has_room k c.in-Ok.name c.want.result c.words_from.ensures.frame.keeps.lawful gives.has in
     (omega arith, (has_live k c.in-Ok.name c.want.result gives.has, omega (arith, room, c.want.ensures)))
 
 gives : (g : Over) (c : goal.After-set_length g) → Gives c.args.self.now.heap c.words_from.new.self.heap c.in-Ok.name c.want.result
@@ -45,7 +45,7 @@ given g c =
     let h = c.args.self.now.heap in
     let name = c.in-Ok.name in
     let bytes = lying c.set_length.new.self.stored name.at c.args.len in
-    let lawful = c.words_from.ensures.keeps.was_lawful in
+    let lawful = c.words_from.ensures.frame.keeps.was_lawful in
     let is = c.set_length.ensures.heap in
     record {
       heap = is ∙ ap (λ (s : HeapState). with_payload s name bytes) (rw c.want.ensures at c.words_from.ensures.heap);
@@ -69,19 +69,21 @@ returns-clause-allocates g c =
       touches = search rules;
       rise = search rules;
       leaves = λ k live. c.set_length.ensures.leaves k (subst (λ (s : HeapState). IsLiveWord s.blocks k) (sym e.heap) (live_step h k live 0 (GiveFrom c.args.at c.want.result) tt)) ∙ e.leaves k live;
-      wild = free_not_wild refl e.keeps.was_lawful (room.0, room.1) _ _;
+      wild = free_not_wild refl e.frame.keeps.was_lawful (room.0, room.1) _ _;
       unread = λ none. absurd (none (room.0, room.1.stands));
     }
 
-pub returns-clause-peak : goal.returns-clause-peak
-returns-clause-peak g c =
-    let bytes = lying c.set_length.new.self.stored c.in-Ok.name.at c.args.len in
-    omega (arith, ap words_in_use c.set_length.ensures.heap, (words_set g.row.SLI c.words_from.new.self.heap (Fill c.in-Ok.name bytes) tt).0, c.words_from.ensures.peak, c.set_length.ensures.most)
+pub returns-clause-frame : goal.returns-clause-frame
+returns-clause-frame g c = record {
+  err = search rules;
+  keeps = search rules;
+  peak =
+      let bytes = lying c.set_length.new.self.stored c.in-Ok.name.at c.args.len in
+      omega (arith, ap words_in_use c.set_length.ensures.heap, (words_set g.row.SLI c.words_from.new.self.heap (Fill c.in-Ok.name bytes) tt).0, c.words_from.ensures.frame.peak, c.set_length.ensures.frame.most);
+  groups = groups_then c.words_from.ensures.frame.groups c.set_length.ensures.frame.groups;
+}
 
 -- ---- groups of eight words
 
-pub returns-in-Err-clause-groups : goal.returns-in-Err-clause-groups
-returns-in-Err-clause-groups g c = more_groups (omega arith) c.words_from.ensures.groups
-
-pub returns-clause-groups : goal.returns-clause-groups
-returns-clause-groups g c = groups_then c.words_from.ensures.groups c.set_length.ensures.groups
+pub returns-in-Err-clause-frame : goal.returns-in-Err-clause-frame
+returns-in-Err-clause-frame g c = record { err = search rules; keeps = search rules; peak = search rules; groups = more_groups (omega arith) c.words_from.ensures.frame.groups }

@@ -5,11 +5,12 @@ use Rattle.tlsf_heap.proofs.lemmas.calls.Allocate.{Allocates, allocates_none, al
 use Rattle.tlsf_heap.proofs.lemmas.calls.AllocateUnset.{given_zeros, given_lying, lying_lawful, zeroed}
 use Rattle.tlsf_heap.proofs.lemmas.blocks.Lawful.{with_region}
 use Rattle.tlsf_heap.proofs.lemmas.blocks.Find.{and_left}
-use Rattle.tlsf_heap.proofs.lemmas.calls.Kept.{keeps_stored, keeps_read, stored_read, more_use}
+use Rattle.tlsf_heap.proofs.lemmas.calls.Kept.{keeps_stored, stored_read, more_use}
 use Rattle.tlsf_heap.proofs.lemmas.blocks.Used.{used_small}
 use Rattle.tlsf_heap.proofs.lemmas.calls.Leaves.{seen_live}
 use Rattle.tlsf_words.proofs.Touching.{no_groups, more_groups, groups_then}
 use Rattle.tlsf_heap.proofs.heap.Heap.allocate_unset.Given.{Over}
+use Rattle.tlsf_heap.proofs.lemmas.calls.Frames.{found_read, same_peak, settles_found}
 use Rattle.tlsf_heap.proofs.heap.Heap.allocate_unset.Goals as goal
 
 pub choose-requires : goal.choose-requires
@@ -185,23 +186,20 @@ returns-clause-allocates g c =
 
 -- ---- what is kept
 
-pub returns-clause-keeps : goal.returns-clause-keeps
-returns-clause-keeps g c = keeps_stored g.row.SLI c.self.inside c.self.view_is c.self.invariant _ (invariant_of-self-2 g c) (omega (arith, (unset g c).edits.rise, c.choose.ensures.reads.rise)) ((unset g c).edits.stays ∙ c.choose.ensures.reads.stays)
+pub returns-clause-frame : goal.returns-clause-frame
+returns-clause-frame g c = record {
+  err = search rules;
+  keeps = keeps_stored g.row.SLI c.self.inside c.self.view_is c.self.invariant _ (invariant_of-self-2 g c) (omega (arith, (unset g c).edits.rise, c.choose.ensures.reads.rise)) ((unset g c).edits.stays ∙ c.choose.ensures.reads.stays);
+  peak = search rules;
+  groups = subst (λ (s : Shown). InGroups 14 s.touched c.carve_unset-given.new.region.touched) c.self.view_is (more_groups (omega arith) (groups_then (no_groups c.choose.ensures.untouched) c.carve_unset-given.ensures.groups));
+}
 
-pub returns-in_default-clause-keeps : goal.returns-in_default-clause-keeps
-returns-in_default-clause-keeps g c = keeps_read g.row.SLI c.self.inside c.self.view_is c.self.invariant _ c.choose.ensures.reads
+pub returns-in_default-clause-frame : goal.returns-in_default-clause-frame
+returns-in_default-clause-frame g c =
+    let look = found_read g.row.SLI c.self.inside c.self.view_is c.self.invariant _ c.choose.ensures.reads c.choose.ensures.touched (no_groups c.choose.ensures.untouched) in
+    settles_found (omega arith) (same_peak look.same look.keeps) look
 
-pub returns-then-self-clause-keeps : goal.returns-then-self-clause-keeps
-returns-then-self-clause-keeps g c = keeps_read g.row.SLI c.self.inside c.self.view_is c.self.invariant _ c.choose.ensures.reads
-
--- ---- groups of eight words
-
-pub returns-in_default-clause-groups : goal.returns-in_default-clause-groups
-returns-in_default-clause-groups g c = more_groups (omega arith) (no_groups (c.choose.ensures.untouched ∙ ap (λ (s : Shown). s.touched) c.self.view_is))
-
-pub returns-then-self-clause-groups : goal.returns-then-self-clause-groups
-returns-then-self-clause-groups g c = more_groups (omega arith) (no_groups (c.choose.ensures.untouched ∙ ap (λ (s : Shown). s.touched) c.self.view_is))
-
-pub returns-clause-groups : goal.returns-clause-groups
-returns-clause-groups g c =
-    subst (λ (s : Shown). InGroups 14 s.touched c.carve_unset-given.new.region.touched) c.self.view_is (more_groups (omega arith) (groups_then (no_groups c.choose.ensures.untouched) c.carve_unset-given.ensures.groups))
+pub returns-then-self-clause-frame : goal.returns-then-self-clause-frame
+returns-then-self-clause-frame g c =
+    let look = found_read g.row.SLI c.self.inside c.self.view_is c.self.invariant _ c.choose.ensures.reads c.choose.ensures.touched (no_groups c.choose.ensures.untouched) in
+    settles_found (omega arith) (same_peak look.same look.keeps) look

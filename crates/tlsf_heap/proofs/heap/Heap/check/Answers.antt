@@ -1,6 +1,5 @@
-use Rattle.tlsf_heap.proofs.Common.{ap, sym, ◌∙◌, subst, Ok, arith, refl, HeapState, IsNameCheck, RefusesName, Stale, Shown, InGroups}
-use Rattle.tlsf_heap.proofs.lemmas.calls.Kept.{keeps_same, keeps_read}
-use Rattle.tlsf_words.proofs.Touching.{no_groups, more_groups}
+use Rattle.tlsf_heap.proofs.Common.{ap, sym, ◌∙◌, subst, Ok, arith, HeapState, IsNameCheck, RefusesName, Stale, Shown}
+use Rattle.tlsf_heap.proofs.lemmas.calls.Frames.{finds_more, found_none, found_read}
 use Rattle.tlsf_heap.proofs.heap.Heap.check.Goals as goal
 
 pub returns-clause-answer : goal.returns-clause-answer
@@ -19,22 +18,13 @@ returns-in_default-clause-answer g c =
 
 -- ---- what is kept
 
-pub returns-then-name-self-clause-keeps : goal.returns-then-name-self-clause-keeps
-returns-then-name-self-clause-keeps g c = keeps_same g.row.SLI c.self.inside c.self.view_is c.self.invariant
+pub returns-then-name-self-clause-frame : goal.returns-then-name-self-clause-frame
+returns-then-name-self-clause-frame g c = finds_more (omega arith) (omega arith) (found_none g.row.SLI c.self.inside c.self.view_is c.self.invariant)
 
-pub returns-in_default-clause-keeps : goal.returns-in_default-clause-keeps
-returns-in_default-clause-keeps g c = keeps_read g.row.SLI c.self.inside c.self.view_is c.self.invariant _ c.find_live.ensures.reads
+pub returns-in_default-clause-frame : goal.returns-in_default-clause-frame
+returns-in_default-clause-frame g c =
+    found_read g.row.SLI c.self.inside c.self.view_is c.self.invariant _ c.find_live.ensures.reads c.find_live.ensures.touched c.find_live.ensures.groups
 
-pub returns-clause-keeps : goal.returns-clause-keeps
-returns-clause-keeps g c = keeps_read g.row.SLI c.self.inside c.self.view_is c.self.invariant _ c.find_live.ensures.reads
-
--- ---- groups of eight words
-
-pub returns-then-name-self-clause-groups : goal.returns-then-name-self-clause-groups
-returns-then-name-self-clause-groups g c = more_groups (omega arith) (no_groups {old = c.args.self.now.touched} refl)
-
-pub returns-in_default-clause-groups : goal.returns-in_default-clause-groups
-returns-in_default-clause-groups g c = subst (λ (s : Shown). InGroups 2 s.touched c.find_live.new.self.touched) c.self.view_is c.find_live.ensures.groups
-
-pub returns-clause-groups : goal.returns-clause-groups
-returns-clause-groups g c = subst (λ (s : Shown). InGroups 2 s.touched c.find_live.new.self.touched) c.self.view_is c.find_live.ensures.groups
+pub returns-clause-frame : goal.returns-clause-frame
+returns-clause-frame g c =
+    found_read g.row.SLI c.self.inside c.self.view_is c.self.invariant _ c.find_live.ensures.reads c.find_live.ensures.touched c.find_live.ensures.groups

@@ -1,7 +1,7 @@
 use Rattle.tlsf_heap.proofs.Common.{ap, ◌∙◌, subst, arith, rules, MatchOption, IsPlace, FindsSound, Shown}
 use Rattle.tlsf_heap.proofs.lemmas.words.Around.{checked_around}
 use Rattle.tlsf_heap.proofs.lemmas.words.Undamaged.{begins_there}
-use Rattle.tlsf_heap.proofs.lemmas.calls.Kept.{keeps_read}
+use Rattle.tlsf_heap.proofs.lemmas.calls.Frames.{nothing_read}
 use Rattle.tlsf_heap.proofs.heap.Heap.check_around.Goals as goal
 
 pub returns-clause-checks : goal.returns-clause-checks
@@ -24,8 +24,8 @@ returns-clause-checks g c =
       };
     }
 
-pub returns-clause-keeps : goal.returns-clause-keeps
-returns-clause-keeps g c = keeps_read g.row.SLI c.self.inside c.self.view_is c.self.invariant _ c.check_around.ensures.reads
+pub returns-clause-frame : goal.returns-clause-frame
+returns-clause-frame g c = nothing_read g.row.SLI c.self.inside c.self.view_is c.self.invariant _ c.check_around.ensures.reads
 
 pub returns-clause-unread : goal.returns-clause-unread
 returns-clause-unread g c none = c.check_around.ensures.unread (λ begins. none (subst (λ (s : Shown). IsPlace s.heap.blocks c.args.at) c.self.view_is (begins_there c.self.invariant.shows begins))) ∙ ap (λ (s : Shown). s.touched) c.self.view_is

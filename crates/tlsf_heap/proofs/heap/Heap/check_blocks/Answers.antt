@@ -1,10 +1,10 @@
 use Rattle.tlsf_heap.proofs.Common.{ap, ◌∙◌, subst, arith, rules, MatchOption, IsPlace, FindsSound, Shown}
 use Rattle.tlsf_heap.proofs.lemmas.words.Undamaged.{checked_sound, begins_there}
-use Rattle.tlsf_heap.proofs.lemmas.calls.Kept.{keeps_read}
+use Rattle.tlsf_heap.proofs.lemmas.calls.Frames.{nothing_read}
 use Rattle.tlsf_heap.proofs.heap.Heap.check_blocks.Goals as goal
 
-pub returns-clause-keeps : goal.returns-clause-keeps
-returns-clause-keeps g c = keeps_read g.row.SLI c.self.inside c.self.view_is c.self.invariant _ c.check.ensures.reads
+pub returns-clause-frame : goal.returns-clause-frame
+returns-clause-frame g c = nothing_read g.row.SLI c.self.inside c.self.view_is c.self.invariant _ c.check.ensures.reads
 
 pub returns-clause-checks : goal.returns-clause-checks
 returns-clause-checks g c =

@@ -1,12 +1,14 @@
 use Rattle.tlsf_heap.proofs.Common.{ap, ◌∙◌, subst, IsPlace, Shown}
-use Rattle.tlsf_heap.proofs.lemmas.calls.Kept.{keeps_read}
+use Rattle.tlsf_heap.proofs.lemmas.calls.Frames.{found_read}
 use Rattle.tlsf_heap.proofs.heap.Heap.check_place.Goals as goal
 
-pub returns-clause-keeps : goal.returns-clause-keeps
-returns-clause-keeps g c = keeps_read g.row.SLI c.self.inside c.self.view_is c.self.invariant _ c.live_at.ensures.reads
+pub returns-clause-frame : goal.returns-clause-frame
+returns-clause-frame g c =
+    found_read g.row.SLI c.self.inside c.self.view_is c.self.invariant _ c.live_at.ensures.reads c.live_at.ensures.touched c.live_at.ensures.groups
 
-pub returns-in_default-clause-keeps : goal.returns-in_default-clause-keeps
-returns-in_default-clause-keeps g c = keeps_read g.row.SLI c.self.inside c.self.view_is c.self.invariant _ c.live_at.ensures.reads
+pub returns-in_default-clause-frame : goal.returns-in_default-clause-frame
+returns-in_default-clause-frame g c =
+    found_read g.row.SLI c.self.inside c.self.view_is c.self.invariant _ c.live_at.ensures.reads c.live_at.ensures.touched c.live_at.ensures.groups
 
 pub returns-in_default-clause-unread : goal.returns-in_default-clause-unread
 returns-in_default-clause-unread g c none = c.live_at.ensures.unread (λ place. none (subst (λ (s : Shown). IsPlace s.heap.blocks c.args.at) c.self.view_is place)) ∙ ap (λ (s : Shown). s.touched) c.self.view_is

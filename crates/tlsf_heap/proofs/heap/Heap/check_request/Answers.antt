@@ -27,8 +27,8 @@ choose-requires g c = (
   ),
 )
 
-pub returns-in_err-class-clause-keeps : goal.returns-in_err-class-clause-keeps
-returns-in_err-class-clause-keeps g c = keeps_read g.row.SLI c.self.inside c.self.view_is c.self.invariant _ c.choose.ensures.reads
+pub returns-in_err-class-clause-frame : goal.returns-in_err-class-clause-frame
+returns-in_err-class-clause-frame g c = record { same = search rules; keeps = keeps_read g.row.SLI c.self.inside c.self.view_is c.self.invariant _ c.choose.ensures.reads }
 
 -- ---- the block that serves the request
 
@@ -47,8 +47,8 @@ found g c =
     subst (λ (s : Shown). FindsChoice g.row.SLI (want c.args.len) s.stored s.heap.blocks c.check_taken.result) c.self.view_is
     (subst (λ (k : ℕ). FindsChoice g.row.SLI k c.self.inside.region.stored c.self.inside.region.blocks c.check_taken.result) c.want-words.ensures found)
 
-pub returns-clause-keeps : goal.returns-clause-keeps
-returns-clause-keeps g c = keeps_read g.row.SLI c.self.inside c.self.view_is c.self.invariant _ (reads_both (reads_both c.choose.ensures.reads c.head.ensures.reads) c.check_taken.ensures.reads)
+pub returns-clause-frame : goal.returns-clause-frame
+returns-clause-frame g c = record { same = search rules; keeps = keeps_read g.row.SLI c.self.inside c.self.view_is c.self.invariant _ (reads_both (reads_both c.choose.ensures.reads c.head.ensures.reads) c.check_taken.ensures.reads) }
 
 pub returns-clause-checks : goal.returns-clause-checks
 returns-clause-checks g c =

@@ -1,4 +1,4 @@
-use Rattle.tlsf_heap.proofs.Common.{◌≡◌, ℕ, ◌+◌, ◌*◌, ◌/◌, ◌≤◌, List, length, sym, ap, ◌∙◌, subst, arith, bytes_in, payload_byte, HeapState, StandsAt, bytes_of, block_at, Shown, written, free_places, list_in, state_of, InGroups}
+use Rattle.tlsf_heap.proofs.Common.{rules, ◌≡◌, ℕ, ◌+◌, ◌*◌, ◌/◌, ◌≤◌, List, length, sym, ap, ◌∙◌, subst, arith, bytes_in, payload_byte, HeapState, StandsAt, bytes_of, block_at, Shown, written, free_places, list_in, state_of, InGroups}
 use Rattle.tlsf_heap.proofs.lemmas.calls.Alter.{first_bytes, named_of, payload_is, room_in}
 use Rattle.tlsf_heap.proofs.lemmas.lists.FreeLists.{same_lists}
 use Rattle.tlsf_heap.proofs.lemmas.blocks.Lawful.{with_region}
@@ -59,20 +59,17 @@ returns-clause-heap g c =
     (wrote g c).is_heap
     ∙ ap (λ (bytes : List ℕ). (written k c.args.to 0 bytes).heap) (first_bytes h k c.args.from c.args.len (ap (λ (s : Shown). s.heap) c.self.view_is) c.self.invariant.shows c.requires.from c.requires.least)
 
-pub returns-clause-touches : goal.returns-clause-touches
-returns-clause-touches g c = omega (arith, (c.copy.ensures.change (stood g c).0 (stood g c).1).edits.touches, ap (λ (s : Shown). s.touches) c.self.view_is)
-
--- ---- what is kept
-
-pub returns-clause-keeps : goal.returns-clause-keeps
-returns-clause-keeps g c =
-    let edits = (c.copy.ensures.change (stood g c).0 (stood g c).1).edits in
-    keeps_stored g.row.SLI c.self.inside c.self.view_is c.self.invariant _ (invariant_of-self g c) edits.rise edits.stays
+pub returns-clause-frame : goal.returns-clause-frame
+returns-clause-frame g c = record {
+  keeps =
+      let edits = (c.copy.ensures.change (stood g c).0 (stood g c).1).edits in
+      keeps_stored g.row.SLI c.self.inside c.self.view_is c.self.invariant _ (invariant_of-self g c) edits.rise edits.stays;
+  most = search rules;
+  touches = omega (arith, (c.copy.ensures.change (stood g c).0 (stood g c).1).edits.touches, ap (λ (s : Shown). s.touches) c.self.view_is);
+  groups = subst (λ (s : Shown). InGroups (4 + 2 * (c.args.len / 64)) s.touched c.copy.new.self.touched) c.self.view_is c.copy.ensures.groups;
+}
 
 -- ---- the payloads of other blocks
 
 pub returns-clause-leaves : goal.returns-clause-leaves
 returns-clause-leaves g c = seen_both g.row.SLI c.self.inside c.self.view_is _ c.args.from.at c.args.to.at c.copy.ensures.touched
-
-pub returns-clause-groups : goal.returns-clause-groups
-returns-clause-groups g c = subst (λ (s : Shown). InGroups (4 + 2 * (c.args.len / 64)) s.touched c.copy.new.self.touched) c.self.view_is c.copy.ensures.groups

@@ -1,8 +1,8 @@
-use Rattle.tlsf_heap.proofs.Common.{◌≡◌, ℕ, ◌<◌, None, Some, Ok, refl, sym, ap, ◌∙◌, subst, arith, IsPlace, name_at, name_with, IsNameCheck, Shown, state_of, InGroups}
+use Rattle.tlsf_heap.proofs.Common.{◌≡◌, ℕ, ◌<◌, None, Some, Ok, refl, sym, ap, ◌∙◌, subst, arith, IsPlace, name_at, name_with, IsNameCheck, Shown, state_of}
 use Rattle.tlsf_heap.proofs.lemmas.calls.ByPlace.{name_found, checked_here, live_here, live_not_wild}
-use Rattle.tlsf_heap.proofs.lemmas.calls.Kept.{keeps_read, reads_both}
-use Rattle.tlsf_heap.proofs.lemmas.calls.Leaves.{seen_live}
-use Rattle.tlsf_words.proofs.Touching.{more_groups, groups_then}
+use Rattle.tlsf_heap.proofs.lemmas.calls.Kept.{reads_both}
+use Rattle.tlsf_words.proofs.Touching.{groups_then}
+use Rattle.tlsf_heap.proofs.lemmas.calls.Frames.{finds_more, found_read}
 use Rattle.tlsf_heap.proofs.heap.Heap.find_at.Goals as goal
 
 pub returns-in_default-clause-found : goal.returns-in_default-clause-found
@@ -22,27 +22,16 @@ returns-clause-wild g c = live_not_wild (ap (λ (s : Shown). s.heap) c.self.view
 
 -- ---- what is kept
 
-pub returns-in_default-clause-keeps : goal.returns-in_default-clause-keeps
-returns-in_default-clause-keeps g c = keeps_read g.row.SLI c.self.inside c.self.view_is c.self.invariant _ c.live_at.ensures.reads
+pub returns-in_default-clause-frame : goal.returns-in_default-clause-frame
+returns-in_default-clause-frame g c =
+    finds_more (omega arith) (omega arith) (found_read g.row.SLI c.self.inside c.self.view_is c.self.invariant _ c.live_at.ensures.reads c.live_at.ensures.touched c.live_at.ensures.groups)
 
-pub returns-clause-keeps : goal.returns-clause-keeps
-returns-clause-keeps g c = keeps_read g.row.SLI c.self.inside c.self.view_is c.self.invariant _ (reads_both c.live_at.ensures.reads c.mark-serial.ensures.reads)
-
--- ---- the payloads of other blocks
-
-pub returns-in_default-clause-leaves : goal.returns-in_default-clause-leaves
-returns-in_default-clause-leaves g c = seen_live g.row.SLI c.self.inside c.self.view_is _ c.live_at.ensures.touched
-
-pub returns-clause-leaves : goal.returns-clause-leaves
-returns-clause-leaves g c = seen_live g.row.SLI c.self.inside c.self.view_is _ (λ k live. (rw c.live_at.ensures.reads.blocks at c.mark-serial.ensures.touched) k live ∙ c.live_at.ensures.touched k live)
+pub returns-clause-frame : goal.returns-clause-frame
+returns-clause-frame g c =
+    let first = c.live_at.ensures.reads in
+    found_read g.row.SLI c.self.inside c.self.view_is c.self.invariant _ (reads_both first c.mark-serial.ensures.reads) (λ k live. (rw first.blocks at c.mark-serial.ensures.touched) k live ∙ c.live_at.ensures.touched k live) (groups_then c.live_at.ensures.groups c.mark-serial.ensures.groups)
 
 -- ---- groups of eight words
-
-pub returns-in_default-clause-groups : goal.returns-in_default-clause-groups
-returns-in_default-clause-groups g c = more_groups (omega arith) (subst (λ (s : Shown). InGroups 1 s.touched c.live_at.new.self.touched) c.self.view_is c.live_at.ensures.groups)
-
-pub returns-clause-groups : goal.returns-clause-groups
-returns-clause-groups g c = subst (λ (s : Shown). InGroups 2 s.touched c.mark-serial.new.self.touched) c.self.view_is (groups_then c.live_at.ensures.groups c.mark-serial.ensures.groups)
 
 pub returns-in_default-clause-unread : goal.returns-in_default-clause-unread
 returns-in_default-clause-unread g c none = c.live_at.ensures.unread (λ place. none (subst (λ (s : Shown). IsPlace s.heap.blocks c.args.at) c.self.view_is place)) ∙ ap (λ (s : Shown). s.touched) c.self.view_is

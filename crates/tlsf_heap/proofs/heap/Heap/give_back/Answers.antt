@@ -1,4 +1,4 @@
-use Rattle.tlsf_heap.proofs.Common.{◌≡◌, ◌≢◌, ℕ, sym, ap, ◌∙◌, subst, Ok, arith, IsLawful, IsTagOf, site_at, Shown, state_of, released_by_place, last_tick}
+use Rattle.tlsf_heap.proofs.Common.{rules, ◌≡◌, ◌≢◌, ℕ, sym, ap, ◌∙◌, subst, Ok, arith, IsLawful, IsTagOf, site_at, Shown, state_of, released_by_place, last_tick}
 use Rattle.tlsf_heap.specs.ByPlace.{IsPlaceCheck}
 use Rattle.tlsf_heap.proofs.lemmas.calls.Allocate.{lawful_regions}
 use Rattle.tlsf_heap.proofs.lemmas.calls.ByPlace.{released_here}
@@ -55,5 +55,5 @@ invariant_of-self g c =
       most_in_use = used.most;
     }
 
-pub returns-clause-keeps : goal.returns-clause-keeps
-returns-clause-keeps g c = keeps_stored g.row.SLI c.self.inside c.self.view_is c.self.invariant _ (invariant_of-self g c) c.coalesce.ensures.edits.rise c.coalesce.ensures.edits.stays
+pub returns-clause-frame : goal.returns-clause-frame
+returns-clause-frame g c = record { keeps = keeps_stored g.row.SLI c.self.inside c.self.view_is c.self.invariant _ (invariant_of-self g c) c.coalesce.ensures.edits.rise c.coalesce.ensures.edits.stays; most = search rules; touches = search rules; groups = search rules }

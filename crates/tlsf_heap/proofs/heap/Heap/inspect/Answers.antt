@@ -1,4 +1,4 @@
-use Rattle.tlsf_heap.proofs.Common.{◌≡◌, ap, ◌∙◌, arith, err_from_is_err_and, payload_at, Shown, seen, state_of}
+use Rattle.tlsf_heap.proofs.Common.{rules, ◌≡◌, ap, ◌∙◌, arith, err_from_is_err_and, payload_at, Shown, seen, state_of}
 use Rattle.tlsf_heap.proofs.lemmas.calls.Alter.{are_payload, stood_in}
 use Rattle.tlsf_heap.proofs.lemmas.calls.Named.{live_is, not_forged}
 use Rattle.tlsf_heap.proofs.lemmas.calls.Write.{read_none, read_refused}
@@ -13,7 +13,7 @@ pub inspect-requires : goal.inspect-requires
 inspect-requires g c =
     let h = state_of g.row.SLI c.self.inside in
     let k = c.args.self.now.heap in
-    let same : h ≡ k = ap (λ (s : Shown). s.heap) c.self.view_is ∙ c.in_ok-len.ensures.same.heap in
+    let same : h ≡ k = ap (λ (s : Shown). s.heap) c.self.view_is ∙ c.in_ok-len.ensures.frame.same.heap in
     let is_named = c.in_ok-len.ensures.answer.0 in
     let long = c.in_ok-len.ensures.answer.1 in (
       omega arith,
@@ -26,16 +26,18 @@ inspect-requires g c =
 pub returns-clause-answer : goal.returns-clause-answer
 returns-clause-answer g c = read_none c.args.self.now.heap c.args.name c.in_ok-len.ensures.answer.0
 
-pub returns-clause-inspected : goal.returns-clause-inspected
-returns-clause-inspected g c =
-    let same : state_of g.row.SLI c.self.inside ≡ c.args.self.now.heap = ap (λ (s : Shown). s.heap) c.self.view_is ∙ c.in_ok-len.ensures.same.heap in
-    record {
-      shown = payload_at c.self.inside.region.stored c.args.name.at c.in_ok-len.len;
-      payload = are_payload (state_of g.row.SLI c.self.inside) c.args.self.now.heap c.args.name c.in_ok-len.len same c.self.invariant.shows c.in_ok-len.ensures.answer.0 c.in_ok-len.ensures.answer.1;
-      called = c.inspect.ensures;
-    }
-
--- ---- the name was not forged
-
-pub returns-clause-forged : goal.returns-clause-forged
-returns-clause-forged g c = not_forged (seen c.args.self.now) c.args.name c.in_ok-len.ensures.keeps.was_lawful c.in_ok-len.ensures.answer.0 _
+pub returns-clause-inspects : goal.returns-clause-inspects
+returns-clause-inspects g c = record {
+  inspected =
+      let same : state_of g.row.SLI c.self.inside ≡ c.args.self.now.heap = ap (λ (s : Shown). s.heap) c.self.view_is ∙ c.in_ok-len.ensures.frame.same.heap in
+      record {
+        shown = payload_at c.self.inside.region.stored c.args.name.at c.in_ok-len.len;
+        payload = are_payload (state_of g.row.SLI c.self.inside) c.args.self.now.heap c.args.name c.in_ok-len.len same c.self.invariant.shows c.in_ok-len.ensures.answer.0 c.in_ok-len.ensures.answer.1;
+        called = c.inspect.ensures;
+      };
+  heap = search rules;
+  touches = search rules;
+  rise = search rules;
+  leaves = search rules;
+  forged = not_forged (seen c.args.self.now) c.args.name c.in_ok-len.ensures.frame.keeps.was_lawful c.in_ok-len.ensures.answer.0 _;
+}

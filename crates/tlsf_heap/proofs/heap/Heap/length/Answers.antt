@@ -1,8 +1,9 @@
-use Rattle.tlsf_heap.proofs.Common.{length, sym, ap, ◌∙◌, subst, arith, Shown, state_of, InGroups}
-use Rattle.tlsf_heap.proofs.lemmas.calls.Kept.{keeps_read, stored_read}
+use Rattle.tlsf_heap.proofs.Common.{length, sym, ap, ◌∙◌, arith, Shown, state_of}
+use Rattle.tlsf_heap.proofs.lemmas.calls.Kept.{stored_read}
 use Rattle.tlsf_heap.proofs.lemmas.calls.Alter.{named_of, payload_is}
 use Rattle.tlsf_heap.proofs.lemmas.calls.Named.{named_same, named_stands, named_live}
 use Rattle.tlsf_heap.proofs.lemmas.calls.Write.{length_is}
+use Rattle.tlsf_heap.proofs.lemmas.calls.Frames.{found_read}
 use Rattle.tlsf_heap.proofs.heap.Heap.length.Goals as goal
 
 pub length-requires : goal.length-requires
@@ -21,8 +22,6 @@ returns-clause-value g c =
 pub invariant_of-self : goal.invariant_of-self
 invariant_of-self g c = stored_read g.row.SLI c.self.inside c.self.view_is c.self.invariant _ c.length.ensures.reads
 
-pub returns-clause-keeps : goal.returns-clause-keeps
-returns-clause-keeps g c = keeps_read g.row.SLI c.self.inside c.self.view_is c.self.invariant _ c.length.ensures.reads
-
-pub returns-clause-groups : goal.returns-clause-groups
-returns-clause-groups g c = subst (λ (s : Shown). InGroups 1 s.touched c.length.new.self.touched) c.self.view_is c.length.ensures.groups
+pub returns-clause-frame : goal.returns-clause-frame
+returns-clause-frame g c =
+    found_read g.row.SLI c.self.inside c.self.view_is c.self.invariant _ c.length.ensures.reads c.length.ensures.touched c.length.ensures.groups

@@ -11,7 +11,7 @@ use Rattle.tlsf_heap.proofs.heap.Heap.move_on.Goals as goal
 stays : (g : Over) (c : goal.After-from_residual g) → ⊥
 stays g c =
     let has = room_has c.args.self.now.heap c.args.name (c.args.gap + c.args.words) c.requires.live (omega (arith, c.requires.least)) c.requires.room in
-    shrink_done c.args.self.now.heap c.args.name c.args.gap c.args.words c.resize_words.ensures.keeps.was_lawful has c.requires.least c.requires.left c.in_err-resize_words.field-0.0 c.args.words (omega arith) c.in_err-resize_words.ensures.resizes.answer_is
+    shrink_done c.args.self.now.heap c.args.name c.args.gap c.args.words c.resize_words.ensures.frame.keeps.was_lawful has c.requires.least c.requires.left c.in_err-resize_words.field-0.0 c.args.words (omega arith) c.in_err-resize_words.ensures.resizes.answer_is
 
 pub returns-in_err-resize_words-clause-answer : goal.returns-in_err-resize_words-clause-answer
 returns-in_err-resize_words-clause-answer g c = absurd (stays g c)
@@ -22,7 +22,7 @@ returns-in_err-resize_words-clause-ok g c = absurd (stays g c)
 cut : (g : Over) (c : goal.After-from_residual-in_err-resize_words-2 g) → ⊥
 cut g c =
     let has = room_has c.args.self.now.heap c.args.name (c.args.gap + c.args.words) c.requires.live (omega (arith, c.requires.least)) c.requires.room in
-    shrink_done c.args.self.now.heap c.args.name c.args.gap c.args.words c.resize_words-2.ensures.keeps.was_lawful has c.requires.least c.requires.left c.in_err-resize_words-2.field-0.0 c.args.gap (omega arith) c.in_err-resize_words-2.ensures.resizes.answer_is
+    shrink_done c.args.self.now.heap c.args.name c.args.gap c.args.words c.resize_words-2.ensures.frame.keeps.was_lawful has c.requires.least c.requires.left c.in_err-resize_words-2.field-0.0 c.args.gap (omega arith) c.in_err-resize_words-2.ensures.resizes.answer_is
 
 pub returns-in_err-resize_words-2-clause-answer : goal.returns-in_err-resize_words-2-clause-answer
 returns-in_err-resize_words-2-clause-answer g c = absurd (cut g c)
@@ -36,12 +36,12 @@ returns-in_err-resize_words-2-clause-ok g c = absurd (cut g c)
 pub overflow_add-name : goal.overflow_add-name
 overflow_add-name g c =
     let has = room_has c.args.self.now.heap c.args.name (c.args.gap + c.args.words) c.requires.live (omega (arith, c.requires.least)) c.requires.room in
-    omega (arith, has_within c.args.self.now.heap c.args.name (c.args.gap + c.args.words) c.resize_words-2.ensures.keeps.was_lawful has, c.requires.small)
+    omega (arith, has_within c.args.self.now.heap c.args.name (c.args.gap + c.args.words) c.resize_words-2.ensures.frame.keeps.was_lawful has, c.requires.small)
 
 given : (g : Over) (c : goal.After-from_residual-in_err-moved g) → ⊥
 given g c =
     let has = room_has c.args.self.now.heap c.args.name (c.args.gap + c.args.words) c.requires.live (omega (arith, c.requires.least)) c.requires.room in
-    let there = from_done_there c.args.self.now.heap c.args.name c.args.gap c.args.words c.resize_words-2.ensures.keeps.was_lawful has c.requires.least c.requires.left c.resize_words-2.new.self.heap c.resize_words-2.ensures.resizes.heap in
+    let there = from_done_there c.args.self.now.heap c.args.name c.args.gap c.args.words c.resize_words-2.ensures.frame.keeps.was_lawful has c.requires.least c.requires.left c.resize_words-2.new.self.heap c.resize_words-2.ensures.resizes.heap in
     false≢true (c.in_err-moved.ensures.cases.ok.1 there)
 
 pub returns-in_err-moved-clause-heap : goal.returns-in_err-moved-clause-heap
@@ -54,7 +54,7 @@ freed : (g : Over) (c : goal.After-from_residual-in_err-release g) → ⊥
 freed g c =
     let has = room_has c.args.self.now.heap c.args.name (c.args.gap + c.args.words) c.requires.live (omega (arith, c.requires.least)) c.requires.room in
     let same = c.resize_words-2.ensures.resizes.heap in
-    moved_done c.args.self.now.heap c.args.name c.args.gap c.args.words c.resize_words-2.ensures.keeps.was_lawful has c.requires.least c.requires.left
+    moved_done c.args.self.now.heap c.args.name c.args.gap c.args.words c.resize_words-2.ensures.frame.keeps.was_lawful has c.requires.least c.requires.left
     c.words_from.new.self.heap c.in_err-release.field-0.0 c.in_ok-moved.moved (rw same at c.words_from.ensures.heap) (rw same at c.in_ok-moved.ensures.answer) c.in_err-release.ensures.releases.answer_is
 
 pub returns-in_err-release-clause-answer : goal.returns-in_err-release-clause-answer
@@ -100,7 +100,7 @@ pub returns-in_err-resize_words-clause-groups : goal.returns-in_err-resize_words
 returns-in_err-resize_words-clause-groups g c = absurd (stays g c)
 
 pub returns-then-gap-eq0-clause-groups : goal.returns-then-gap-eq0-clause-groups
-returns-then-gap-eq0-clause-groups g c = more_groups (omega arith) c.resize_words.ensures.groups
+returns-then-gap-eq0-clause-groups g c = more_groups (omega arith) c.resize_words.ensures.frame.groups
 
 pub returns-in_err-resize_words-2-clause-groups : goal.returns-in_err-resize_words-2-clause-groups
 returns-in_err-resize_words-2-clause-groups g c = absurd (cut g c)
@@ -112,4 +112,4 @@ pub returns-in_err-release-clause-groups : goal.returns-in_err-release-clause-gr
 returns-in_err-release-clause-groups g c = absurd (freed g c)
 
 pub returns-clause-groups : goal.returns-clause-groups
-returns-clause-groups g c = more_groups (omega arith) (groups_then (groups_then c.resize_words-2.ensures.groups c.words_from.ensures.groups) c.release.ensures.groups)
+returns-clause-groups g c = more_groups (omega arith) (groups_then (groups_then c.resize_words-2.ensures.frame.groups c.words_from.ensures.frame.groups) c.release.ensures.frame.groups)

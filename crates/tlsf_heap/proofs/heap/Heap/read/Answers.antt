@@ -14,7 +14,7 @@ returns-in_err-check_range-clause-reads g c =
       heap = search rules;
       touches = search rules;
       rise = search rules;
-      leaves = λ k o. e.leaves k (any_word c.args.self.now.heap.blocks c.args.name.at k o);
+      leaves = λ k o. e.frame.leaves k (any_word c.args.self.now.heap.blocks c.args.name.at k o);
       refused = search rules;
       forged = search rules;
     }
@@ -22,14 +22,14 @@ returns-in_err-check_range-clause-reads g c =
 pub read-requires : goal.read-requires
 read-requires g c = (
   omega arith,
-  range_stands (state_of g.row.SLI c.self.inside) c.args.self.now.heap c.args.name c.args.at (length c.args.out.now) (ap (λ (s : Shown). s.heap) c.self.view_is ∙ c.in_ok-check_range.ensures.same.heap)
+  range_stands (state_of g.row.SLI c.self.inside) c.args.self.now.heap c.args.name c.args.at (length c.args.out.now) (ap (λ (s : Shown). s.heap) c.self.view_is ∙ c.in_ok-check_range.ensures.frame.same.heap)
       c.in_ok-check_range.ensures.answer c.in_ok-check_range.ensures.place,
 )
 
 pub returns-clause-reads : goal.returns-clause-reads
 returns-clause-reads g c =
     let e = c.in_ok-check_range.ensures in
-    let same : state_of g.row.SLI c.self.inside ≡ c.args.self.now.heap = ap (λ (s : Shown). s.heap) c.self.view_is ∙ e.same.heap in
+    let same : state_of g.row.SLI c.self.inside ≡ c.args.self.now.heap = ap (λ (s : Shown). s.heap) c.self.view_is ∙ e.frame.same.heap in
     record {
       answer_is = search rules;
       bytes_are = reads (state_of g.row.SLI c.self.inside) c.args.self.now.heap c.args.name c.args.at (length c.args.out.now) same e.answer e.place c.args.out.now c.read.new.out c.read.ensures.bytes;
@@ -37,7 +37,7 @@ returns-clause-reads g c =
       touches = search rules;
       rise = search rules;
       leaves = λ k o. c.read.ensures.touched k (subst (λ (h : HeapState). IsOthersWord h.blocks c.args.name.at k) (sym same) o)
-          ∙ ap (λ (s : Shown). times s.touched k) c.self.view_is ∙ e.leaves k (any_word c.args.self.now.heap.blocks c.args.name.at k o);
+          ∙ ap (λ (s : Shown). times s.touched k) c.self.view_is ∙ e.frame.leaves k (any_word c.args.self.now.heap.blocks c.args.name.at k o);
       refused = search rules;
-      forged = not_forged (seen c.args.self.now) c.args.name e.keeps.was_lawful (range_named c.args.self.now.heap c.args.name c.args.at (length c.args.out.now) e.answer e.place) _;
+      forged = not_forged (seen c.args.self.now) c.args.name e.frame.keeps.was_lawful (range_named c.args.self.now.heap c.args.name c.args.at (length c.args.out.now) e.answer e.place) _;
     }

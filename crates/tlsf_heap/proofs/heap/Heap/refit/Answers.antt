@@ -1,15 +1,16 @@
-use Rattle.tlsf_heap.proofs.Common.{◌≡◌, ℕ, Bool, false, bytes_of, block_at, Name, IsNamed, ◌+◌, ◌-◌, ◌/◌, ◌≤◌, List, length, sym, ap, ◌∙◌, subst, arith, HeapState, words_in, words_for, payload_words_at, named, site_at, IsTagOf, Shown, state_of, payload_of, InGroups, IsOthersWord, refl}
+use Rattle.tlsf_heap.proofs.Common.{rules, ◌≡◌, ℕ, Bool, false, bytes_of, block_at, Name, IsNamed, ◌+◌, ◌-◌, ◌/◌, ◌≤◌, List, length, sym, ap, ◌∙◌, subst, arith, HeapState, words_in, words_for, payload_words_at, named, site_at, IsTagOf, Shown, state_of, payload_of, InGroups, IsOthersWord, refl}
 use Rattle.tlsf_class.proofs.TwoLevels.{most_words_any}
 use Rattle.tlsf_heap.proofs.lemmas.calls.Alter.{payload_is}
 use Rattle.tlsf_heap.proofs.lemmas.calls.Allocate.{lawful_regions}
 use Rattle.tlsf_heap.proofs.lemmas.calls.LeftBlock.{Found, found, room_with, room_small, resizes_short, resizes_worn, resizes_done, payload_left}
 use Rattle.tlsf_heap.proofs.lemmas.calls.Named.{named_stands, named_live}
 use Rattle.tlsf_heap.proofs.lemmas.words.Says.{at_index}
-use Rattle.tlsf_heap.proofs.lemmas.calls.Kept.{keeps_stored, keeps_read, keeps_same, less_use, more_use, stored_read}
+use Rattle.tlsf_heap.proofs.lemmas.calls.Kept.{keeps_stored, less_use, more_use, stored_read}
 use Rattle.tlsf_heap.proofs.lemmas.calls.Leaves.{seen_live}
 use Rattle.tlsf_heap.proofs.lemmas.blocks.Used.{used_small}
 use Rattle.tlsf_heap.proofs.lemmas.words.Footprint.{any_word}
 use Rattle.tlsf_words.proofs.Touching.{more_groups, groups_then}
+use Rattle.tlsf_heap.proofs.lemmas.calls.Frames.{found_none, found_read, same_peak, settles_found, spares_found}
 use Rattle.tlsf_heap.proofs.heap.Heap.refit.Goals as goal
 
 -- ---- the words that it has are enough, and the tick is at its last value
@@ -26,8 +27,10 @@ returns-then-self-clause-heap g c =
     let f : Found (state_of g.row.SLI c.self.inside) c.args.name c.args.own = found same c.requires.found in
     sym same ∙ (resizes_worn g.row.SLI f same c.self.invariant.lawful c.args.words c.args.len c.requires.payload c.self.inside.region refl refl (omega (arith, c.if-words-held.true, c.size-held.ensures.value, f.is_own.size)) c.if-self.true).is_heap
 
-pub returns-then-self-clause-keeps : goal.returns-then-self-clause-keeps
-returns-then-self-clause-keeps g c = keeps_same g.row.SLI c.self.inside c.self.view_is c.self.invariant
+pub returns-then-self-clause-frame : goal.returns-then-self-clause-frame
+returns-then-self-clause-frame g c =
+    let look = found_none g.row.SLI c.self.inside c.self.view_is c.self.invariant in
+    settles_found (omega arith) (same_peak look.same look.keeps) look
 
 -- ---- they are enough
 
@@ -117,8 +120,19 @@ returns-then-words-held-clause-heap g c =
     (resizes_done g.row.SLI f same c.self.invariant.lawful c.args.words c.args.len c.requires.payload (omega (arith, c.if-words-held.true, c.size-held.ensures.value, f.is_own.size)) c.if-self.false
     c.shrink-left.new.region e.edits.words (e.blocks f.named.1.0 (named_stands _ _ _ _ f.named.1.1))).is_heap
 
-pub returns-then-words-held-clause-keeps : goal.returns-then-words-held-clause-keeps
-returns-then-words-held-clause-keeps g c = keeps_stored g.row.SLI c.self.inside c.self.view_is c.self.invariant _ (invariant_of-self g c) c.shrink-left.ensures.edits.rise c.shrink-left.ensures.edits.stays
+pub returns-then-words-held-clause-frame : goal.returns-then-words-held-clause-frame
+returns-then-words-held-clause-frame g c = record {
+  err = search rules;
+  keeps = keeps_stored g.row.SLI c.self.inside c.self.view_is c.self.invariant _ (invariant_of-self g c) c.shrink-left.ensures.edits.rise c.shrink-left.ensures.edits.stays;
+  peak = search rules;
+  groups =
+      let h = state_of g.row.SLI c.self.inside in
+      let same : h ≡ c.args.self.now.heap = ap (λ (s : Shown). s.heap) c.self.view_is in
+      let f : Found h c.args.name c.args.own = found same c.requires.found in
+      let held = ap (λ (l : List ℕ). length l) (ap (λ (s : HeapState). payload_of s c.args.name) (sym same) ∙ payload_is h c.args.name f.named) in
+      subst (λ (s : Shown). InGroups (13 + (c.args.len - length (payload_of c.args.self.now.heap c.args.name)) / 64) s.touched c.shrink-left.new.region.touched) c.self.view_is
+      (more_groups (omega (arith, held)) (c.shrink-left.ensures.groups f.named.1.0 (named_stands _ _ _ _ f.named.1.1)));
+}
 
 -- twenty-one to cut the block, and the payload: of that only what grows
 pub returns-then-words-held-clause-touches : goal.returns-then-words-held-clause-touches
@@ -138,15 +152,6 @@ returns-then-words-held-clause-grown g c =
     let f : Found h c.args.name c.args.own = found same c.requires.found in
     let held = ap (λ (l : List ℕ). words_for (length l)) (ap (λ (s : HeapState). payload_of s c.args.name) (sym same) ∙ payload_is h c.args.name f.named) in
     omega (arith, c.shrink-left.ensures.grown f.named.1.0 (named_stands _ _ _ _ f.named.1.1), held, ap (λ (s : Shown). s.touches) c.self.view_is)
-
-pub returns-then-words-held-clause-groups : goal.returns-then-words-held-clause-groups
-returns-then-words-held-clause-groups g c =
-    let h = state_of g.row.SLI c.self.inside in
-    let same : h ≡ c.args.self.now.heap = ap (λ (s : Shown). s.heap) c.self.view_is in
-    let f : Found h c.args.name c.args.own = found same c.requires.found in
-    let held = ap (λ (l : List ℕ). length l) (ap (λ (s : HeapState). payload_of s c.args.name) (sym same) ∙ payload_is h c.args.name f.named) in
-    subst (λ (s : Shown). InGroups (13 + (c.args.len - length (payload_of c.args.self.now.heap c.args.name)) / 64) s.touched c.shrink-left.new.region.touched) c.self.view_is
-    (more_groups (omega (arith, held)) (c.shrink-left.ensures.groups f.named.1.0 (named_stands _ _ _ _ f.named.1.1)))
 
 -- ---- more are wanted: the block behind
 
@@ -189,8 +194,10 @@ returns-then-room-words-clause-heap g c =
     let reads = c.look_behind-next.ensures.reads in
     (resizes_short g.row.SLI f same c.self.invariant.lawful c.args.words c.args.len c.requires.payload c.look_behind-next.new.region reads.words reads.blocks (omega (arith, c.if-room-words.true, c.size-held.ensures.value, c.size.ensures.value, room_with f c.look_behind-next.ensures.tag))).is_heap
 
-pub returns-then-room-words-clause-keeps : goal.returns-then-room-words-clause-keeps
-returns-then-room-words-clause-keeps g c = keeps_read g.row.SLI c.self.inside c.self.view_is c.self.invariant _ c.look_behind-next.ensures.reads
+pub returns-then-room-words-clause-frame : goal.returns-then-room-words-clause-frame
+returns-then-room-words-clause-frame g c =
+    let look = found_read g.row.SLI c.self.inside c.self.view_is c.self.invariant _ c.look_behind-next.ensures.reads c.look_behind-next.ensures.touched c.look_behind-next.ensures.groups in
+    settles_found (omega arith) (same_peak look.same look.keeps) look
 
 -- ---- the tick is at its last value
 
@@ -211,14 +218,14 @@ returns-then-self-2-clause-heap g c =
     let reads = c.look_behind-next.ensures.reads in
     (resizes_worn g.row.SLI f same c.self.invariant.lawful c.args.words c.args.len c.requires.payload c.look_behind-next.new.region reads.words reads.blocks (omega (arith, c.if-room-words.false, c.size-held.ensures.value, c.size.ensures.value, room_with f c.look_behind-next.ensures.tag)) c.if-self-2.true).is_heap
 
-pub returns-then-self-2-clause-keeps : goal.returns-then-self-2-clause-keeps
-returns-then-self-2-clause-keeps g c = keeps_read g.row.SLI c.self.inside c.self.view_is c.self.invariant _ c.look_behind-next.ensures.reads
+pub returns-then-self-2-clause-frame : goal.returns-then-self-2-clause-frame
+returns-then-self-2-clause-frame g c =
+    let look = found_read g.row.SLI c.self.inside c.self.view_is c.self.invariant _ c.look_behind-next.ensures.reads c.look_behind-next.ensures.touched c.look_behind-next.ensures.groups in
+    settles_found (omega arith) (same_peak look.same look.keeps) look
 
-pub returns-then-self-2-clause-leaves : goal.returns-then-self-2-clause-leaves
-returns-then-self-2-clause-leaves g c k o = seen_live g.row.SLI c.self.inside c.self.view_is _ c.look_behind-next.ensures.touched k (any_word c.args.self.now.heap.blocks c.args.name.at k o)
-
-pub returns-then-self-2-clause-refused : goal.returns-then-self-2-clause-refused
-returns-then-self-2-clause-refused g c = seen_live g.row.SLI c.self.inside c.self.view_is _ c.look_behind-next.ensures.touched
+pub returns-then-self-2-clause-others : goal.returns-then-self-2-clause-others
+returns-then-self-2-clause-others g c =
+    spares_found (found_read g.row.SLI c.self.inside c.self.view_is c.self.invariant _ c.look_behind-next.ensures.reads c.look_behind-next.ensures.touched c.look_behind-next.ensures.groups)
 
 -- ---- the block grows
 
@@ -317,8 +324,20 @@ returns-clause-heap g c =
     (resizes_done g.row.SLI f same c.self.invariant.lawful c.args.words c.args.len c.requires.payload (omega (arith, c.if-room-words.false, c.size-held.ensures.value, c.size.ensures.value, room_with f c.look_behind-next.ensures.tag)) c.if-self-2.false
     c.grow-left.new.region (e.edits.words ∙ reads.words) ((rw reads.blocks at e.blocks) f.named.1.0 (named_stands _ _ _ _ f.named.1.1))).is_heap
 
-pub returns-clause-keeps : goal.returns-clause-keeps
-returns-clause-keeps g c = keeps_stored g.row.SLI c.self.inside c.self.view_is c.self.invariant _ (invariant_of-self-2 g c) (omega (arith, c.grow-left.ensures.edits.rise, c.look_behind-next.ensures.reads.rise)) (c.grow-left.ensures.edits.stays ∙ c.look_behind-next.ensures.reads.stays)
+pub returns-clause-frame : goal.returns-clause-frame
+returns-clause-frame g c = record {
+  err = search rules;
+  keeps = keeps_stored g.row.SLI c.self.inside c.self.view_is c.self.invariant _ (invariant_of-self-2 g c) (omega (arith, c.grow-left.ensures.edits.rise, c.look_behind-next.ensures.reads.rise)) (c.grow-left.ensures.edits.stays ∙ c.look_behind-next.ensures.reads.stays);
+  peak = search rules;
+  groups =
+      let h = state_of g.row.SLI c.self.inside in
+      let same : h ≡ c.args.self.now.heap = ap (λ (s : Shown). s.heap) c.self.view_is in
+      let f : Found h c.args.name c.args.own = found same c.requires.found in
+      let held = ap (λ (l : List ℕ). length l) (ap (λ (s : HeapState). payload_of s c.args.name) (sym same) ∙ payload_is h c.args.name f.named) in
+      let fitted = (rw c.look_behind-next.ensures.reads.blocks at c.grow-left.ensures.groups) f.named.1.0 (named_stands _ _ _ _ f.named.1.1) in
+      subst (λ (s : Shown). InGroups (13 + (c.args.len - length (payload_of c.args.self.now.heap c.args.name)) / 64) s.touched c.grow-left.new.region.touched) c.self.view_is
+      (more_groups (omega (arith, held)) (groups_then c.look_behind-next.ensures.groups fitted));
+}
 
 -- one for the tag behind, twenty to cut the block, and the payload: of that only what grows
 pub returns-clause-touches : goal.returns-clause-touches
@@ -341,19 +360,16 @@ returns-clause-grown g c =
     let held = ap (λ (l : List ℕ). words_for (length l)) (ap (λ (s : HeapState). payload_of s c.args.name) (sym same) ∙ payload_is h c.args.name f.named) in
     omega (arith, (rw reads.blocks at c.grow-left.ensures.grown) f.named.1.0 (named_stands _ _ _ _ f.named.1.1), held, reads.touches, ap (λ (s : Shown). s.touches) c.self.view_is)
 
-pub returns-clause-leaves : goal.returns-clause-leaves
-returns-clause-leaves g c k o =
-    let same = ap (λ (s : Shown). s.heap) c.self.view_is in
-    let reads = c.look_behind-next.ensures.reads in
-    (rw reads.blocks at c.grow-left.ensures.touched) k (subst (λ (h : HeapState). IsOthersWord h.blocks c.args.name.at k) (sym same) o)
-    ∙ seen_live g.row.SLI c.self.inside c.self.view_is _ c.look_behind-next.ensures.touched k (any_word c.args.self.now.heap.blocks c.args.name.at k o)
+pub returns-clause-others : goal.returns-clause-others
+returns-clause-others g c = record {
+  leaves = λ k o.
+      let same = ap (λ (s : Shown). s.heap) c.self.view_is in
+      let reads = c.look_behind-next.ensures.reads in
+      (rw reads.blocks at c.grow-left.ensures.touched) k (subst (λ (h : HeapState). IsOthersWord h.blocks c.args.name.at k) (sym same) o)
+      ∙ seen_live g.row.SLI c.self.inside c.self.view_is _ c.look_behind-next.ensures.touched k (any_word c.args.self.now.heap.blocks c.args.name.at k o);
+  refused = search rules;
+}
 
-pub returns-clause-groups : goal.returns-clause-groups
-returns-clause-groups g c =
-    let h = state_of g.row.SLI c.self.inside in
-    let same : h ≡ c.args.self.now.heap = ap (λ (s : Shown). s.heap) c.self.view_is in
-    let f : Found h c.args.name c.args.own = found same c.requires.found in
-    let held = ap (λ (l : List ℕ). length l) (ap (λ (s : HeapState). payload_of s c.args.name) (sym same) ∙ payload_is h c.args.name f.named) in
-    let fitted = (rw c.look_behind-next.ensures.reads.blocks at c.grow-left.ensures.groups) f.named.1.0 (named_stands _ _ _ _ f.named.1.1) in
-    subst (λ (s : Shown). InGroups (13 + (c.args.len - length (payload_of c.args.self.now.heap c.args.name)) / 64) s.touched c.grow-left.new.region.touched) c.self.view_is
-    (more_groups (omega (arith, held)) (groups_then c.look_behind-next.ensures.groups fitted))
+pub returns-then-room-words-clause-others : goal.returns-then-room-words-clause-others
+returns-then-room-words-clause-others g c =
+    spares_found (found_read g.row.SLI c.self.inside c.self.view_is c.self.invariant _ c.look_behind-next.ensures.reads c.look_behind-next.ensures.touched c.look_behind-next.ensures.groups)

@@ -1,35 +1,35 @@
-use Rattle.tlsf_heap.proofs.Common.{Ok, sym, subst, arith, err_from_is_err_and, HeapState}
+use Rattle.tlsf_heap.proofs.Common.{Ok, sym, subst, arith, err_from_is_err_and, HeapState, refl}
 use Rattle.tlsf_heap.specs.ByPlace.{IsPlaceCheck}
 use Rattle.tlsf_heap.proofs.lemmas.calls.GivenBack.{releases_nowhere, releases_late, releases_there}
-use Rattle.tlsf_words.proofs.Touching.{more_groups, groups_then}
+use Rattle.tlsf_heap.proofs.lemmas.calls.Frames.{done_then, settles_found}
 use Rattle.tlsf_heap.proofs.heap.Heap.release_at.Goals as goal
 
 pub returns-in_err-own-clause-releases : goal.returns-in_err-own-clause-releases
 returns-in_err-own-clause-releases g c =
     let e = c.in_err-own.ensures in
     let p = err_from_is_err_and c.from_residual.result c.from_residual.ensures.1 in
-    rw (p.1, p.2) (releases_nowhere g.row.SLI c.args.self.now c.check_place.new.self c.args.at e.same e.keeps e.touches e.leaves _ e.answer e.wild e.unread)
+    rw (p.1, p.2) (releases_nowhere g.row.SLI c.args.self.now c.check_place.new.self c.args.at e.frame.same e.frame.keeps e.frame.touches e.frame.leaves _ e.answer e.wild e.unread)
 
 pub returns-in_err-check_tick-clause-releases : goal.returns-in_err-check_tick-clause-releases
 returns-in_err-check_tick-clause-releases g c =
     let e = c.in_ok-own.ensures in
     let t = c.in_err-check_tick.ensures.answer in
     let p = err_from_is_err_and c.from_residual-in_err-check_tick.result c.from_residual-in_err-check_tick.ensures.1 in
-    rw (p.1, p.2, t.0) (releases_late g.row.SLI c.args.self.now c.check_place.new.self c.args.at e.same e.keeps e.touches e.leaves e.answer.0 e.answer.1 t.1)
+    rw (p.1, p.2, t.0) (releases_late g.row.SLI c.args.self.now c.check_place.new.self c.args.at e.frame.same e.frame.keeps e.frame.touches e.frame.leaves e.answer.0 e.answer.1 t.1)
 
 pub give_back-requires : goal.give_back-requires
 give_back-requires g c =
     let e = c.in_ok-own.ensures in
-    (omega arith, (subst (λ (s : HeapState). IsPlaceCheck s c.args.at (Ok c.in_ok-own.own)) (sym e.same.heap) e.answer, c.in_ok-check_tick.ensures.answer))
+    (omega arith, (subst (λ (s : HeapState). IsPlaceCheck s c.args.at (Ok c.in_ok-own.own)) (sym e.frame.same.heap) e.answer, c.in_ok-check_tick.ensures.answer))
 
 pub returns-clause-releases : goal.returns-clause-releases
 returns-clause-releases g c =
     let e = c.in_ok-own.ensures in
     let r = c.give_back.ensures in
-    releases_there g.row.SLI c.args.self.now c.check_place.new.self c.args.at e.same e.keeps e.touches e.leaves c.give_back.new.self e.answer.0 e.answer.1 r.answer r.heap r.keeps.touches_rise r.touches r.leaves
+    releases_there g.row.SLI c.args.self.now c.check_place.new.self c.args.at e.frame.same e.frame.keeps e.frame.touches e.frame.leaves c.give_back.new.self e.answer.0 e.answer.1 r.answer r.heap r.frame.keeps.touches_rise r.frame.touches r.leaves
 
-pub returns-in_err-check_tick-clause-groups : goal.returns-in_err-check_tick-clause-groups
-returns-in_err-check_tick-clause-groups g c = more_groups (omega arith) c.in_ok-own.ensures.groups
+pub returns-in_err-check_tick-clause-frame : goal.returns-in_err-check_tick-clause-frame
+returns-in_err-check_tick-clause-frame g c = settles_found (omega arith) refl c.in_ok-own.ensures.frame
 
-pub returns-clause-groups : goal.returns-clause-groups
-returns-clause-groups g c = more_groups (omega arith) (groups_then c.in_ok-own.ensures.groups c.give_back.ensures.groups)
+pub returns-clause-frame : goal.returns-clause-frame
+returns-clause-frame g c = done_then (omega arith) c.in_ok-own.ensures.frame c.give_back.ensures.frame

@@ -1,10 +1,11 @@
 use Rattle.tlsf_heap.proofs.Common.{◌≡◌, ◌*◌, ◌≤◌, length, ap, sym, ◌∙◌, subst, arith, rules, HeapState, Shown, report_of, IsGrant, state_of}
 use Rattle.tlsf_heap.specs.declared.report.Report.{Report}
-use Rattle.tlsf_heap.proofs.lemmas.calls.Kept.{keeps_read, stored_read}
+use Rattle.tlsf_heap.proofs.lemmas.calls.Kept.{stored_read}
 use Rattle.tlsf_heap.proofs.lemmas.blocks.Sums.{four_each}
 use Rattle.tlsf_heap.proofs.lemmas.calls.Reports.{AreSums, sums_are, told_is, greatest_length}
 use Rattle.tlsf_heap.proofs.lemmas.calls.Leaves.{seen_live}
 use Rattle.tlsf_heap.proofs.heap.Heap.report.Given.{Over}
+use Rattle.tlsf_heap.proofs.lemmas.calls.Frames.{nothing_read}
 use Rattle.tlsf_heap.proofs.heap.Heap.report.Goals as goal
 
 sums : (g : Over) (c : goal.After-of g) → AreSums g.row.SLI c.self.inside.tick c.of.result
@@ -56,5 +57,5 @@ returns-clause-reports g c =
       leaves = seen_live g.row.SLI c.self.inside c.self.view_is _ c.of.ensures.touched;
     }
 
-pub returns-clause-keeps : goal.returns-clause-keeps
-returns-clause-keeps g c = keeps_read g.row.SLI c.self.inside c.self.view_is c.self.invariant _ c.of.ensures.reads
+pub returns-clause-frame : goal.returns-clause-frame
+returns-clause-frame g c = nothing_read g.row.SLI c.self.inside c.self.view_is c.self.invariant _ c.of.ensures.reads

@@ -1,12 +1,12 @@
-use Rattle.tlsf_heap.proofs.Common.{[], refl, sym, ap, ◌∙◌, subst, arith, class_of, Outcome, opened, list_in, Shown, InGroups}
-use Rattle.tlsf_words.proofs.Touching.{no_groups, more_groups}
+use Rattle.tlsf_heap.proofs.Common.{rules, [], refl, sym, ap, ◌∙◌, subst, arith, class_of, Outcome, opened, list_in, Shown, InGroups}
 use Rattle.tlsf_heap.proofs.lemmas.blocks.Lawful.{opened_lawful}
-use Rattle.tlsf_heap.proofs.lemmas.calls.Kept.{keeps_same, keeps_stored}
+use Rattle.tlsf_heap.proofs.lemmas.calls.Kept.{keeps_stored}
 use Rattle.tlsf_heap.proofs.lemmas.calls.Leaves.{seen_live}
 use Rattle.tlsf_heap.proofs.lemmas.calls.Reset.{reset_worn, reset_done}
 use Rattle.tlsf_heap.proofs.lemmas.lists.FreeLists.{listed_first}
 use Rattle.tlsf_heap.proofs.lemmas.words.Groups.{first_words}
 use Rattle.tlsf_heap.specs.WordsInUse.{words_used}
+use Rattle.tlsf_heap.proofs.lemmas.calls.Frames.{found_none, settles_found}
 use Rattle.tlsf_heap.proofs.heap.Heap.reset.Goals as goal
 
 -- ---- the tick is at its last value
@@ -22,11 +22,8 @@ returns-then-self-clause-resets g c =
       leaves = λ k live. refl;
     }
 
-pub returns-then-self-clause-keeps : goal.returns-then-self-clause-keeps
-returns-then-self-clause-keeps g c = keeps_same g.row.SLI c.self.inside c.self.view_is c.self.invariant
-
-pub returns-then-self-clause-groups : goal.returns-then-self-clause-groups
-returns-then-self-clause-groups g c = more_groups (omega arith) (no_groups refl)
+pub returns-then-self-clause-frame : goal.returns-then-self-clause-frame
+returns-then-self-clause-frame g c = settles_found (omega arith) refl (found_none g.row.SLI c.self.inside c.self.view_is c.self.invariant)
 
 -- ---- all blocks are back
 
@@ -65,8 +62,10 @@ returns-clause-resets g c =
       leaves = seen_live g.row.SLI c.self.inside c.self.view_is _ (λ k live. e.touched k (omega (arith, live.2.behind)));
     }
 
-pub returns-clause-keeps : goal.returns-clause-keeps
-returns-clause-keeps g c = keeps_stored g.row.SLI c.self.inside c.self.view_is c.self.invariant _ (invariant_of-self g c) c.reset.ensures.edits.rise c.reset.ensures.edits.stays
-
-pub returns-clause-groups : goal.returns-clause-groups
-returns-clause-groups g c = subst (λ (s : Shown). InGroups 1 s.touched c.reset.new.self.touched) c.self.view_is (first_words c.reset.ensures.touched)
+pub returns-clause-frame : goal.returns-clause-frame
+returns-clause-frame g c = record {
+  err = search rules;
+  keeps = keeps_stored g.row.SLI c.self.inside c.self.view_is c.self.invariant _ (invariant_of-self g c) c.reset.ensures.edits.rise c.reset.ensures.edits.stays;
+  peak = search rules;
+  groups = subst (λ (s : Shown). InGroups 1 s.touched c.reset.new.self.touched) c.self.view_is (first_words c.reset.ensures.touched);
+}

@@ -7,7 +7,7 @@ use Rattle.tlsf_words.proofs.Touching.{more_groups, groups_then}
 use Rattle.tlsf_heap.proofs.heap.Heap.resize_or_move_unset_at.Goals as goal
 
 pub refit_or_move_unset-requires : goal.refit_or_move_unset-requires
-refit_or_move_unset-requires g c = (omega arith, subst (λ (s : HeapState). IsNameCheck s c.in-Some.block.0 (Ok c.in-Some.block.1)) (sym c.in-Some.ensures.same.heap) c.in-Some.ensures.found.1)
+refit_or_move_unset-requires g c = (omega arith, subst (λ (s : HeapState). IsNameCheck s c.in-Some.block.0 (Ok c.in-Some.block.1)) (sym c.in-Some.ensures.frame.same.heap) c.in-Some.ensures.found.1)
 
 -- no live block begins there
 pub returns-in-None-clause-moves : goal.returns-in-None-clause-moves
@@ -19,7 +19,7 @@ returns-in-None-clause-moves g c =
       touches = search rules;
       in_place = search rules;
       rise = search rules;
-      leaves = λ k o. c.in-None.ensures.leaves k (any_word c.args.self.now.heap.blocks c.args.at k o);
+      leaves = λ k o. c.in-None.ensures.frame.leaves k (any_word c.args.self.now.heap.blocks c.args.at k o);
       refused = search rules;
       wild = search rules;
       unread = search rules;
@@ -34,20 +34,25 @@ returns-in-Some-clause-moves g c =
     let here : IsPlace h.blocks c.args.at = subst (λ (at : ℕ). IsPlace h.blocks at) e.found.2 (first.0, named_stands _ _ h.blocks first.0 first.1) in
     record {
       answer_is = search rules;
-      heap = search rules;
+      heap = rw e.found.0 (rw e.frame.same.heap at c.refit_or_move_unset.ensures.heap);
       unchanged = search rules;
       touches = search rules;
       in_place = search rules;
       rise = search rules;
-      leaves = λ k o. (rw e.same.heap at c.refit_or_move_unset.ensures.leaves) k (subst (λ (at : ℕ). IsOthersWord h.blocks at k) (sym e.found.2) o) ∙ e.leaves k (any_word h.blocks c.args.at k o);
-      refused = refused_both c.refit_or_move_unset.result _ _ _ _ e.leaves (rw e.same.heap at c.refit_or_move_unset.ensures.refused);
+      leaves = λ k o. (rw e.frame.same.heap at c.refit_or_move_unset.ensures.others.leaves) k (subst (λ (at : ℕ). IsOthersWord h.blocks at k) (sym e.found.2) o) ∙ e.frame.leaves k (any_word h.blocks c.args.at k o);
+      refused = refused_both c.refit_or_move_unset.result _ _ _ _ e.frame.leaves (rw e.frame.same.heap at c.refit_or_move_unset.ensures.others.refused);
       wild = not_wild here e.found.3 _ _;
       unread = λ none. absurd (none here);
     }
 
 -- ---- groups of eight words
 
-pub returns-in-Some-clause-groups : goal.returns-in-Some-clause-groups
-returns-in-Some-clause-groups g c =
-    let e = c.in-Some.ensures in
-    more_groups (omega (arith, ap (kept_of c.args.self.now.heap c.args.len) e.found.0)) (groups_then e.groups (rw e.same.heap at c.refit_or_move_unset.ensures.groups))
+pub returns-in-Some-clause-frame : goal.returns-in-Some-clause-frame
+returns-in-Some-clause-frame g c = record {
+  err = search rules;
+  keeps = search rules;
+  peak = search rules;
+  groups =
+      let e = c.in-Some.ensures in
+      more_groups (omega (arith, ap (kept_of c.args.self.now.heap c.args.len) e.found.0)) (groups_then e.frame.groups (rw e.frame.same.heap at c.refit_or_move_unset.ensures.frame.groups));
+}

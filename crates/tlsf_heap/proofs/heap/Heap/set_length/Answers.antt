@@ -1,4 +1,4 @@
-use Rattle.tlsf_heap.proofs.Common.{◌≡◌, ◌≤◌, false, length, ap, ◌∙◌, subst, arith, payload_byte, HeapState, size_of, is_free, words_for, free_places, block_at, IsLawful, IsNamed, list_in, Shown, state_of, lying, with_payload, InGroups}
+use Rattle.tlsf_heap.proofs.Common.{rules, ◌≡◌, ◌≤◌, false, length, ap, ◌∙◌, subst, arith, payload_byte, HeapState, size_of, is_free, words_for, free_places, block_at, IsLawful, IsNamed, list_in, Shown, state_of, lying, with_payload, InGroups}
 use Rattle.tlsf_heap.proofs.lemmas.blocks.Lawful.{with_region}
 use Rattle.tlsf_heap.proofs.lemmas.blocks.Used.{used_rebytes}
 use Rattle.tlsf_heap.proofs.lemmas.words.NewLength.{Relengths, relengths, same_lying, length_room}
@@ -61,21 +61,18 @@ returns-clause-lies g c = same_lying c.self.inside.region.stored c.set_length.ne
 pub returns-clause-level : goal.returns-clause-level
 returns-clause-level g c = c.self.invariant.level
 
-pub returns-clause-touches : goal.returns-clause-touches
-returns-clause-touches g c = let t = there g c in omega (arith, (c.set_length.ensures.change t.0.1.0 (named_stands _ _ _ _ t.0.1.1)).edits.touches, ap (λ (s : Shown). s.touches) c.self.view_is)
-
--- ---- what is kept
-
-pub returns-clause-keeps : goal.returns-clause-keeps
-returns-clause-keeps g c =
-    let t = there g c in
-    let edits = (c.set_length.ensures.change t.0.1.0 (named_stands _ _ _ _ t.0.1.1)).edits in
-    keeps_stored g.row.SLI c.self.inside c.self.view_is c.self.invariant _ (invariant_of-self g c) edits.rise edits.stays
+pub returns-clause-frame : goal.returns-clause-frame
+returns-clause-frame g c = record {
+  keeps =
+      let t = there g c in
+      let edits = (c.set_length.ensures.change t.0.1.0 (named_stands _ _ _ _ t.0.1.1)).edits in
+      keeps_stored g.row.SLI c.self.inside c.self.view_is c.self.invariant _ (invariant_of-self g c) edits.rise edits.stays;
+  most = search rules;
+  touches = let t = there g c in omega (arith, (c.set_length.ensures.change t.0.1.0 (named_stands _ _ _ _ t.0.1.1)).edits.touches, ap (λ (s : Shown). s.touches) c.self.view_is);
+  groups = subst (λ (s : Shown). InGroups 1 s.touched c.set_length.new.self.touched) c.self.view_is c.set_length.ensures.groups;
+}
 
 -- ---- the payloads of other blocks
 
 pub returns-clause-leaves : goal.returns-clause-leaves
 returns-clause-leaves g c = seen_live g.row.SLI c.self.inside c.self.view_is _ c.set_length.ensures.touched
-
-pub returns-clause-groups : goal.returns-clause-groups
-returns-clause-groups g c = subst (λ (s : Shown). InGroups 1 s.touched c.set_length.new.self.touched) c.self.view_is c.set_length.ensures.groups

@@ -1,8 +1,9 @@
-use Rattle.tlsf_heap.proofs.Common.{ap, subst, arith, IsLiveAt, Ok, Shown, state_of, InGroups}
+use Rattle.tlsf_heap.proofs.Common.{ap, subst, arith, IsLiveAt, Ok, Shown, state_of}
 use Rattle.tlsf_heap.specs.ByPlace.{IsPlaceCheck}
 use Rattle.tlsf_heap.proofs.lemmas.calls.Alter.{named_of}
-use Rattle.tlsf_heap.proofs.lemmas.calls.Kept.{keeps_read, stored_read}
+use Rattle.tlsf_heap.proofs.lemmas.calls.Kept.{stored_read}
 use Rattle.tlsf_heap.proofs.lemmas.calls.Named.{named_same, named_stands, named_live}
+use Rattle.tlsf_heap.proofs.lemmas.calls.Frames.{found_read}
 use Rattle.tlsf_heap.proofs.heap.Heap.tag_of.Goals as goal
 
 pub tag-requires : goal.tag-requires
@@ -21,8 +22,5 @@ returns-clause-tag g c =
 pub invariant_of-self : goal.invariant_of-self
 invariant_of-self g c = stored_read g.row.SLI c.self.inside c.self.view_is c.self.invariant _ c.tag.ensures.reads
 
-pub returns-clause-keeps : goal.returns-clause-keeps
-returns-clause-keeps g c = keeps_read g.row.SLI c.self.inside c.self.view_is c.self.invariant _ c.tag.ensures.reads
-
-pub returns-clause-groups : goal.returns-clause-groups
-returns-clause-groups g c = subst (λ (s : Shown). InGroups 1 s.touched c.tag.new.self.touched) c.self.view_is c.tag.ensures.groups
+pub returns-clause-frame : goal.returns-clause-frame
+returns-clause-frame g c = found_read g.row.SLI c.self.inside c.self.view_is c.self.invariant _ c.tag.ensures.reads c.tag.ensures.touched c.tag.ensures.groups

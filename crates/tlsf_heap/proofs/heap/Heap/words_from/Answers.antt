@@ -1,14 +1,15 @@
-use Rattle.tlsf_heap.proofs.Common.{◌≡◌, ℕ, ◌+◌, refl, sym, ap, ◌∙◌, subst, Ok, Err, arith, class_of, HeapState, size_of, words_in, IsPlace, block_at, site_at, IsTagOf, Shown, state_of, Stale, NoRoom, Worn, InGroups, bytes_in}
+use Rattle.tlsf_heap.proofs.Common.{rules, ◌≡◌, ℕ, ◌+◌, refl, sym, ap, ◌∙◌, subst, Ok, Err, arith, class_of, HeapState, size_of, words_in, IsPlace, block_at, site_at, IsTagOf, Shown, state_of, Stale, NoRoom, Worn, InGroups, bytes_in}
 use Rattle.tlsf_heap.proofs.lemmas.calls.Allocate.{lawful_regions}
 use Rattle.tlsf_heap.proofs.lemmas.lists.Carved.{IsFreeHere, contains_here, region_here, taken_each}
 use Rattle.tlsf_heap.proofs.lemmas.calls.AllocateFrom.{GivesFrom, from_nowhere, from_small, from_worn, from_done, free_not_wild}
 use Rattle.tlsf_heap.proofs.lemmas.blocks.Lawful.{with_region}
 use Rattle.tlsf_heap.proofs.lemmas.words.Says.{at_index}
-use Rattle.tlsf_heap.proofs.lemmas.calls.Kept.{keeps_stored, keeps_read, more_use, stored_read}
+use Rattle.tlsf_heap.proofs.lemmas.calls.Kept.{keeps_stored, more_use, stored_read}
 use Rattle.tlsf_heap.proofs.lemmas.blocks.Used.{used_small}
 use Rattle.tlsf_heap.proofs.lemmas.calls.Leaves.{seen_live}
 use Rattle.tlsf_words.proofs.Touching.{more_groups, groups_then}
 use Rattle.tlsf_heap.proofs.heap.Heap.words_from.Given.{Over}
+use Rattle.tlsf_heap.proofs.lemmas.calls.Frames.{found_read, same_peak, settles_found}
 use Rattle.tlsf_heap.proofs.heap.Heap.words_from.Goals as goal
 
 -- ---- no free block begins there
@@ -31,8 +32,10 @@ returns-in_default-clause-heap g c = (nobody g c).is_heap
 pub returns-in_default-clause-cases : goal.returns-in_default-clause-cases
 returns-in_default-clause-cases g c = (nobody g c).cases
 
-pub returns-in_default-clause-keeps : goal.returns-in_default-clause-keeps
-returns-in_default-clause-keeps g c = keeps_read g.row.SLI c.self.inside c.self.view_is c.self.invariant _ c.free_at.ensures.reads
+pub returns-in_default-clause-frame : goal.returns-in_default-clause-frame
+returns-in_default-clause-frame g c =
+    let look = found_read g.row.SLI c.self.inside c.self.view_is c.self.invariant _ c.free_at.ensures.reads c.free_at.ensures.touched c.free_at.ensures.groups in
+    settles_found (omega arith) (same_peak look.same look.keeps) look
 
 -- ---- it has too few words
 
@@ -55,8 +58,10 @@ returns-then-size-words-clause-heap g c = (small g c).is_heap
 pub returns-then-size-words-clause-cases : goal.returns-then-size-words-clause-cases
 returns-then-size-words-clause-cases g c = (small g c).cases
 
-pub returns-then-size-words-clause-keeps : goal.returns-then-size-words-clause-keeps
-returns-then-size-words-clause-keeps g c = keeps_read g.row.SLI c.self.inside c.self.view_is c.self.invariant _ c.free_at.ensures.reads
+pub returns-then-size-words-clause-frame : goal.returns-then-size-words-clause-frame
+returns-then-size-words-clause-frame g c =
+    let look = found_read g.row.SLI c.self.inside c.self.view_is c.self.invariant _ c.free_at.ensures.reads c.free_at.ensures.touched c.free_at.ensures.groups in
+    settles_found (omega arith) (same_peak look.same look.keeps) look
 
 -- ---- the tick is at its last value
 
@@ -79,8 +84,10 @@ returns-then-self-clause-heap g c = (worn g c).is_heap
 pub returns-then-self-clause-cases : goal.returns-then-self-clause-cases
 returns-then-self-clause-cases g c = (worn g c).cases
 
-pub returns-then-self-clause-keeps : goal.returns-then-self-clause-keeps
-returns-then-self-clause-keeps g c = keeps_read g.row.SLI c.self.inside c.self.view_is c.self.invariant _ c.free_at.ensures.reads
+pub returns-then-self-clause-frame : goal.returns-then-self-clause-frame
+returns-then-self-clause-frame g c =
+    let look = found_read g.row.SLI c.self.inside c.self.view_is c.self.invariant _ c.free_at.ensures.reads c.free_at.ensures.touched c.free_at.ensures.groups in
+    settles_found (omega arith) (same_peak look.same look.keeps) look
 
 -- ---- it is taken out of its list, and given
 
@@ -175,11 +182,16 @@ returns-clause-heap g c = (given g c).is_heap
 pub returns-clause-cases : goal.returns-clause-cases
 returns-clause-cases g c = (given g c).cases
 
-pub returns-clause-keeps : goal.returns-clause-keeps
-returns-clause-keeps g c =
-    let l = c.in-Some.ensures.answer in
-    let edits = ((rw (c.remove.ensures.blocks ∙ c.free_at.ensures.reads.blocks) at c.give_unset-given.ensures.carved) l.0 l.1.stands).edits in
-    keeps_stored g.row.SLI c.self.inside c.self.view_is c.self.invariant _ (invariant_of-self-2 g c) (omega (arith, edits.rise, c.remove.ensures.edits.rise, c.free_at.ensures.reads.rise)) (edits.stays ∙ c.remove.ensures.edits.stays ∙ c.free_at.ensures.reads.stays)
+pub returns-clause-frame : goal.returns-clause-frame
+returns-clause-frame g c = record {
+  err = search rules;
+  keeps =
+      let l = c.in-Some.ensures.answer in
+      let edits = ((rw (c.remove.ensures.blocks ∙ c.free_at.ensures.reads.blocks) at c.give_unset-given.ensures.carved) l.0 l.1.stands).edits in
+      keeps_stored g.row.SLI c.self.inside c.self.view_is c.self.invariant _ (invariant_of-self-2 g c) (omega (arith, edits.rise, c.remove.ensures.edits.rise, c.free_at.ensures.reads.rise)) (edits.stays ∙ c.remove.ensures.edits.stays ∙ c.free_at.ensures.reads.stays);
+  peak = search rules;
+  groups = subst (λ (s : Shown). InGroups 12 s.touched c.give_unset-given.new.region.touched) c.self.view_is (more_groups (omega arith) (groups_then (groups_then c.free_at.ensures.groups c.remove.ensures.groups) c.give_unset-given.ensures.groups));
+}
 
 -- 2 to find the block, 6 to take it out, 9 for the headers, and 7 to list the rest
 pub returns-clause-touches : goal.returns-clause-touches
@@ -217,19 +229,6 @@ returns-clause-leaves g c = seen_live g.row.SLI c.self.inside c.self.view_is _ (
     (rw (c.remove.ensures.blocks ∙ blocks) at c.give_unset-given.ensures.touched) k live ∙ (rw blocks at c.remove.ensures.touched) k live ∙ c.free_at.ensures.touched k live)
 
 -- ---- groups of eight words
-
-pub returns-in_default-clause-groups : goal.returns-in_default-clause-groups
-returns-in_default-clause-groups g c = more_groups (omega arith) (subst (λ (s : Shown). InGroups 1 s.touched c.free_at.new.self.touched) c.self.view_is c.free_at.ensures.groups)
-
-pub returns-then-size-words-clause-groups : goal.returns-then-size-words-clause-groups
-returns-then-size-words-clause-groups g c = more_groups (omega arith) (subst (λ (s : Shown). InGroups 1 s.touched c.free_at.new.self.touched) c.self.view_is c.free_at.ensures.groups)
-
-pub returns-then-self-clause-groups : goal.returns-then-self-clause-groups
-returns-then-self-clause-groups g c = more_groups (omega arith) (subst (λ (s : Shown). InGroups 1 s.touched c.free_at.new.self.touched) c.self.view_is c.free_at.ensures.groups)
-
-pub returns-clause-groups : goal.returns-clause-groups
-returns-clause-groups g c =
-    subst (λ (s : Shown). InGroups 12 s.touched c.give_unset-given.new.region.touched) c.self.view_is (more_groups (omega arith) (groups_then (groups_then c.free_at.ensures.groups c.remove.ensures.groups) c.give_unset-given.ensures.groups))
 
 pub returns-in_default-clause-unread : goal.returns-in_default-clause-unread
 returns-in_default-clause-unread g c none = c.free_at.ensures.unread (λ place. none (subst (λ (s : Shown). IsPlace s.heap.blocks c.args.at) c.self.view_is place)) ∙ ap (λ (s : Shown). s.touched) c.self.view_is

@@ -5,4 +5,4 @@ use Rattle.tlsf_heap.proofs.heap.Heap.words_of.Goals as goal
 pub returns-clause-words : goal.returns-clause-words
 returns-clause-words g c =
     let own = c.tag_of-own.ensures in
-    c.size.ensures.value ∙ own.tag.2.size ∙ sym (words_live c.args.self.now.heap own.keeps.was_lawful.rooms own.tag.1)
+    c.size.ensures.value ∙ own.tag.2.size ∙ sym (words_live c.args.self.now.heap own.frame.keeps.was_lawful.rooms own.tag.1)

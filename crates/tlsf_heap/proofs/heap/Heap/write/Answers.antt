@@ -17,10 +17,10 @@ returns-in_err-check_range-clause-writes g c =
     let none = unwritten c.args.self.now.heap c.args.name c.args.at c.args.bytes.now _ e.answer in
     record {
       answer_is = rw (p.1, p.2) (sym (ap (λ (o : Outcome (Unit {0})). o.answer) none));
-      heap = e.same.heap ∙ sym (ap (λ (o : Outcome (Unit {0})). o.heap) none);
+      heap = e.frame.same.heap ∙ sym (ap (λ (o : Outcome (Unit {0})). o.heap) none);
       touches = search rules;
       rise = search rules;
-      leaves = λ k o. e.leaves k (any_word c.args.self.now.heap.blocks c.args.name.at k o);
+      leaves = λ k o. e.frame.leaves k (any_word c.args.self.now.heap.blocks c.args.name.at k o);
       refused = search rules;
       forged = search rules;
     }
@@ -28,25 +28,25 @@ returns-in_err-check_range-clause-writes g c =
 pub write-requires : goal.write-requires
 write-requires g c = (
   omega arith,
-  range_stands (state_of g.row.SLI c.self.inside) c.args.self.now.heap c.args.name c.args.at (length c.args.bytes.now) (ap (λ (s : Shown). s.heap) c.self.view_is ∙ c.in_ok-check_range.ensures.same.heap)
+  range_stands (state_of g.row.SLI c.self.inside) c.args.self.now.heap c.args.name c.args.at (length c.args.bytes.now) (ap (λ (s : Shown). s.heap) c.self.view_is ∙ c.in_ok-check_range.ensures.frame.same.heap)
       c.in_ok-check_range.ensures.answer c.in_ok-check_range.ensures.place,
 )
 
 -- the block stands there
 stood : (g : Over) (c : goal.After-write g) → (i : ℕ) × StandsAt c.self.inside.region.blocks c.args.name.at i
 stood g c =
-    let stands = range_stands (state_of g.row.SLI c.self.inside) c.args.self.now.heap c.args.name c.args.at (length c.args.bytes.now) (ap (λ (s : Shown). s.heap) c.self.view_is ∙ c.in_ok-check_range.ensures.same.heap)
+    let stands = range_stands (state_of g.row.SLI c.self.inside) c.args.self.now.heap c.args.name c.args.at (length c.args.bytes.now) (ap (λ (s : Shown). s.heap) c.self.view_is ∙ c.in_ok-check_range.ensures.frame.same.heap)
     c.in_ok-check_range.ensures.answer c.in_ok-check_range.ensures.place in
     (stands.0, stands.1)
 
 wrote : (g : Over) (c : goal.After-write g) → Writes g.row.SLI c.args.self.now.heap c.args.name c.args.at c.args.bytes.now (with_region (state_of g.row.SLI c.self.inside) c.self.inside.tick c.write.new.self)
 wrote g c =
-    writes g.row.SLI (state_of g.row.SLI c.self.inside) c.args.self.now.heap c.args.name c.args.at c.args.bytes.now (ap (λ (s : Shown). s.heap) c.self.view_is ∙ c.in_ok-check_range.ensures.same.heap)
+    writes g.row.SLI (state_of g.row.SLI c.self.inside) c.args.self.now.heap c.args.name c.args.at c.args.bytes.now (ap (λ (s : Shown). s.heap) c.self.view_is ∙ c.in_ok-check_range.ensures.frame.same.heap)
     c.in_ok-check_range.ensures.answer c.in_ok-check_range.ensures.place c.write.new.self c.self.invariant.lawful (c.write.ensures.change (stood g c).0 (stood g c).1).edits.words (λ i stands. (c.write.ensures.change i stands).blocks ∙ sym (behind_one i _ c.self.inside.region.blocks))
 
 pub invariant_of-self : goal.invariant_of-self
 invariant_of-self g c =
-    let same : state_of g.row.SLI c.self.inside ≡ c.args.self.now.heap = ap (λ (s : Shown). s.heap) c.self.view_is ∙ c.in_ok-check_range.ensures.same.heap in
+    let same : state_of g.row.SLI c.self.inside ≡ c.args.self.now.heap = ap (λ (s : Shown). s.heap) c.self.view_is ∙ c.in_ok-check_range.ensures.frame.same.heap in
     let places : free_places g.row.SLI 0 c.write.new.self.blocks ≡ free_places g.row.SLI 0 c.self.inside.region.blocks = (wrote g c).places ∙ sym (ap (λ (h : HeapState). free_places g.row.SLI 0 h.blocks) same) in
     let change = c.write.ensures.change (stood g c).0 (stood g c).1 in
     record {
@@ -64,21 +64,25 @@ invariant_of-self g c =
 pub returns-clause-writes : goal.returns-clause-writes
 returns-clause-writes g c =
     let e = c.in_ok-check_range.ensures in
-    let same : state_of g.row.SLI c.self.inside ≡ c.args.self.now.heap = ap (λ (s : Shown). s.heap) c.self.view_is ∙ e.same.heap in
+    let same : state_of g.row.SLI c.self.inside ≡ c.args.self.now.heap = ap (λ (s : Shown). s.heap) c.self.view_is ∙ e.frame.same.heap in
     record {
       answer_is = (wrote g c).is_answer;
       heap = (wrote g c).is_heap;
-      touches = omega (arith, (c.write.ensures.change (stood g c).0 (stood g c).1).edits.touches, e.touches, ap (λ (s : Shown). s.touches) c.self.view_is);
-      rise = omega (arith, (c.write.ensures.change (stood g c).0 (stood g c).1).edits.rise, e.keeps.touches_rise, ap (λ (s : Shown). s.touches) c.self.view_is);
+      touches = omega (arith, (c.write.ensures.change (stood g c).0 (stood g c).1).edits.touches, e.frame.touches, ap (λ (s : Shown). s.touches) c.self.view_is);
+      rise = omega (arith, (c.write.ensures.change (stood g c).0 (stood g c).1).edits.rise, e.frame.keeps.touches_rise, ap (λ (s : Shown). s.touches) c.self.view_is);
       leaves = λ k o. c.write.ensures.touched k (subst (λ (h : HeapState). IsOthersWord h.blocks c.args.name.at k) (sym same) o)
-          ∙ ap (λ (s : Shown). times s.touched k) c.self.view_is ∙ e.leaves k (any_word c.args.self.now.heap.blocks c.args.name.at k o);
+          ∙ ap (λ (s : Shown). times s.touched k) c.self.view_is ∙ e.frame.leaves k (any_word c.args.self.now.heap.blocks c.args.name.at k o);
       refused = search rules;
-      forged = not_forged (seen c.args.self.now) c.args.name e.keeps.was_lawful (range_named c.args.self.now.heap c.args.name c.args.at (length c.args.bytes.now) e.answer e.place) _;
+      forged = not_forged (seen c.args.self.now) c.args.name e.frame.keeps.was_lawful (range_named c.args.self.now.heap c.args.name c.args.at (length c.args.bytes.now) e.answer e.place) _;
     }
 
 -- ---- what is kept
 
-pub returns-clause-keeps : goal.returns-clause-keeps
-returns-clause-keeps g c =
-    let edits = (c.write.ensures.change (stood g c).0 (stood g c).1).edits in
-    keeps_both c.in_ok-check_range.ensures.keeps (keeps_stored g.row.SLI c.self.inside c.self.view_is c.self.invariant _ (invariant_of-self g c) edits.rise edits.stays)
+pub returns-clause-frame : goal.returns-clause-frame
+returns-clause-frame g c = record {
+  err = search rules;
+  keeps =
+      let edits = (c.write.ensures.change (stood g c).0 (stood g c).1).edits in
+      keeps_both c.in_ok-check_range.ensures.frame.keeps (keeps_stored g.row.SLI c.self.inside c.self.view_is c.self.invariant _ (invariant_of-self g c) edits.rise edits.stays);
+  most = search rules;
+}

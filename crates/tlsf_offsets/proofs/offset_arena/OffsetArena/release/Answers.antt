@@ -19,4 +19,4 @@ pub returns-clause-lawful : goal.returns-clause-lawful
 returns-clause-lawful g c =
     let is : IsOffsets g.row.SLI c.args.self.now = search rules in
     stays g.row.SLI c.args.self.now _ is (ap (λ (o : Offsets). o.unit) c.self.view_is)
-    (ap (λ (h : HeapState). h.words) c.release.ensures.releases.heap ∙ words_released c.self.inside.heap.heap c.args.name ∙ ap (λ (o : Offsets). o.heap.words) c.self.view_is) c.release.ensures.keeps.lawful
+    (ap (λ (h : HeapState). h.words) c.release.ensures.releases.heap ∙ words_released c.self.inside.heap.heap c.args.name ∙ ap (λ (o : Offsets). o.heap.words) c.self.view_is) c.release.ensures.frame.keeps.lawful

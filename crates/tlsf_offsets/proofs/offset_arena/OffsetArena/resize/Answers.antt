@@ -14,14 +14,14 @@ pub returns-in-Err-clause-answer : goal.returns-in-Err-clause-answer
 returns-in-Err-clause-answer g c =
     let is : IsOffsets g.row.SLI c.args.self.now = search rules in
     let a : Alters g.row.SLI c.args.self.now (record { heap = c.resize_words.new.self.heap; unit = c.self.inside.unit; extents = c.resize_words.new.self.extents; touches = c.resize_words.new.self.touches; touched = c.resize_words.new.self.touched }) c.args.name c.args.len (Err c.in-Err.refusal) =
-    alters g.row.SLI _ c.args.self.now _ c.args.name c.args.len c.units_of.result _ is c.self.view_is c.units_of.ensures c.in-Err.ensures.resizes refl c.resize_words.ensures.keeps.lawful in
+    alters g.row.SLI _ c.args.self.now _ c.args.name c.args.len c.units_of.result _ is c.self.view_is c.units_of.ensures c.in-Err.ensures.resizes refl c.resize_words.ensures.frame.keeps.lawful in
     sym a.resizes.answer_is
 
 pub returns-in-Err-clause-resizes : goal.returns-in-Err-clause-resizes
 returns-in-Err-clause-resizes g c =
     let is : IsOffsets g.row.SLI c.args.self.now = search rules in
     let a : Alters g.row.SLI c.args.self.now (record { heap = c.resize_words.new.self.heap; unit = c.self.inside.unit; extents = c.resize_words.new.self.extents; touches = c.resize_words.new.self.touches; touched = c.resize_words.new.self.touched }) c.args.name c.args.len (Err c.in-Err.refusal) =
-    alters g.row.SLI _ c.args.self.now _ c.args.name c.args.len c.units_of.result _ is c.self.view_is c.units_of.ensures c.in-Err.ensures.resizes refl c.resize_words.ensures.keeps.lawful in
+    alters g.row.SLI _ c.args.self.now _ c.args.name c.args.len c.units_of.result _ is c.self.view_is c.units_of.ensures c.in-Err.ensures.resizes refl c.resize_words.ensures.frame.keeps.lawful in
     let r = a.resizes in
     record {
       answer_is = refl;
@@ -38,21 +38,21 @@ pub span_of-requires : goal.span_of-requires
 span_of-requires g c =
     let is : IsOffsets g.row.SLI c.args.self.now = search rules in
     let a : Alters g.row.SLI c.args.self.now (record { heap = c.resize_words.new.self.heap; unit = c.self.inside.unit; extents = c.resize_words.new.self.extents; touches = c.resize_words.new.self.touches; touched = c.resize_words.new.self.touched }) c.args.name c.args.len (Ok tt) =
-    alters g.row.SLI _ c.args.self.now _ c.args.name c.args.len c.units_of.result _ is c.self.view_is c.units_of.ensures c.in-Ok.ensures.resizes refl c.resize_words.ensures.keeps.lawful in
+    alters g.row.SLI _ c.args.self.now _ c.args.name c.args.len c.units_of.result _ is c.self.view_is c.units_of.ensures c.in-Ok.ensures.resizes refl c.resize_words.ensures.frame.keeps.lawful in
     (omega arith, made_live c.args.name (span_units c.args.self.now.unit c.args.len) c.resize_words.new.self.heap (alters_made g.row.SLI c.args.self.now _ c.args.name c.args.len a).0)
 
 pub returns-in-Ok-clause-answer : goal.returns-in-Ok-clause-answer
 returns-in-Ok-clause-answer g c =
     let is : IsOffsets g.row.SLI c.args.self.now = search rules in
     let a : Alters g.row.SLI c.args.self.now (record { heap = c.resize_words.new.self.heap; unit = c.self.inside.unit; extents = c.resize_words.new.self.extents; touches = c.resize_words.new.self.touches; touched = c.resize_words.new.self.touched }) c.args.name c.args.len (Ok tt) =
-    alters g.row.SLI _ c.args.self.now _ c.args.name c.args.len c.units_of.result _ is c.self.view_is c.units_of.ensures c.in-Ok.ensures.resizes refl c.resize_words.ensures.keeps.lawful in
+    alters g.row.SLI _ c.args.self.now _ c.args.name c.args.len c.units_of.result _ is c.self.view_is c.units_of.ensures c.in-Ok.ensures.resizes refl c.resize_words.ensures.frame.keeps.lawful in
     (sym a.resizes.answer_is, c.span_of.ensures.name)
 
 pub returns-in-Ok-clause-resizes : goal.returns-in-Ok-clause-resizes
 returns-in-Ok-clause-resizes g c =
     let is : IsOffsets g.row.SLI c.args.self.now = search rules in
     let a : Alters g.row.SLI c.args.self.now (record { heap = c.resize_words.new.self.heap; unit = c.self.inside.unit; extents = c.resize_words.new.self.extents; touches = c.resize_words.new.self.touches; touched = c.resize_words.new.self.touched }) c.args.name c.args.len (Ok tt) =
-    alters g.row.SLI _ c.args.self.now _ c.args.name c.args.len c.units_of.result _ is c.self.view_is c.units_of.ensures c.in-Ok.ensures.resizes refl c.resize_words.ensures.keeps.lawful in
+    alters g.row.SLI _ c.args.self.now _ c.args.name c.args.len c.units_of.result _ is c.self.view_is c.units_of.ensures c.in-Ok.ensures.resizes refl c.resize_words.ensures.frame.keeps.lawful in
     let e = c.span_of.ensures in
     let n = span_units c.args.self.now.unit c.args.len in
     let named = resized_named c.args.self.now.heap c.args.name n (sym a.resizes.answer_is) in
@@ -63,19 +63,19 @@ pub returns-in-Ok-clause-enough : goal.returns-in-Ok-clause-enough
 returns-in-Ok-clause-enough g c =
     let is : IsOffsets g.row.SLI c.args.self.now = search rules in
     let a : Alters g.row.SLI c.args.self.now (record { heap = c.resize_words.new.self.heap; unit = c.self.inside.unit; extents = c.resize_words.new.self.extents; touches = c.resize_words.new.self.touches; touched = c.resize_words.new.self.touched }) c.args.name c.args.len (Ok tt) =
-    alters g.row.SLI _ c.args.self.now _ c.args.name c.args.len c.units_of.result _ is c.self.view_is c.units_of.ensures c.in-Ok.ensures.resizes refl c.resize_words.ensures.keeps.lawful in
+    alters g.row.SLI _ c.args.self.now _ c.args.name c.args.len c.units_of.result _ is c.self.view_is c.units_of.ensures c.in-Ok.ensures.resizes refl c.resize_words.ensures.frame.keeps.lawful in
     alters_enough g.row.SLI c.args.self.now _ c.args.name c.args.len a c.span_of.result c.span_of.ensures.name c.span_of.ensures.held
 
 pub returns-in-Ok-clause-close : goal.returns-in-Ok-clause-close
 returns-in-Ok-clause-close g c =
     let is : IsOffsets g.row.SLI c.args.self.now = search rules in
     let a : Alters g.row.SLI c.args.self.now (record { heap = c.resize_words.new.self.heap; unit = c.self.inside.unit; extents = c.resize_words.new.self.extents; touches = c.resize_words.new.self.touches; touched = c.resize_words.new.self.touched }) c.args.name c.args.len (Ok tt) =
-    alters g.row.SLI _ c.args.self.now _ c.args.name c.args.len c.units_of.result _ is c.self.view_is c.units_of.ensures c.in-Ok.ensures.resizes refl c.resize_words.ensures.keeps.lawful in
+    alters g.row.SLI _ c.args.self.now _ c.args.name c.args.len c.units_of.result _ is c.self.view_is c.units_of.ensures c.in-Ok.ensures.resizes refl c.resize_words.ensures.frame.keeps.lawful in
     alters_close g.row.SLI c.args.self.now _ c.args.name c.args.len a c.span_of.result c.span_of.ensures.name c.span_of.ensures.held
 
 pub returns-in-Ok-clause-others : goal.returns-in-Ok-clause-others
 returns-in-Ok-clause-others g c =
     let is : IsOffsets g.row.SLI c.args.self.now = search rules in
     let a : Alters g.row.SLI c.args.self.now (record { heap = c.resize_words.new.self.heap; unit = c.self.inside.unit; extents = c.resize_words.new.self.extents; touches = c.resize_words.new.self.touches; touched = c.resize_words.new.self.touched }) c.args.name c.args.len (Ok tt) =
-    alters g.row.SLI _ c.args.self.now _ c.args.name c.args.len c.units_of.result _ is c.self.view_is c.units_of.ensures c.in-Ok.ensures.resizes refl c.resize_words.ensures.keeps.lawful in
+    alters g.row.SLI _ c.args.self.now _ c.args.name c.args.len c.units_of.result _ is c.self.view_is c.units_of.ensures c.in-Ok.ensures.resizes refl c.resize_words.ensures.frame.keeps.lawful in
     kept_resized c.args.self.now c.span_of.new.self (c.span_of.ensures.same.1 ∙ a.unit_is) c.args.name (span_units c.args.self.now.unit c.args.len) (c.span_of.ensures.same.0 ∙ a.resizes.heap)

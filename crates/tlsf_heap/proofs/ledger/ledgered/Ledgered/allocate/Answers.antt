@@ -8,12 +8,12 @@ invariant_of-self-2 g c =
     let takes = c.words-words.ensures.takes in
     let heap = e.allocates.heap ∙ ap (λ (n : ℕ). (allocated_words g.row.SLI h n c.args.len).heap) takes in
     let answer = e.allocates.answer_is ∙ ap (λ (n : ℕ). (allocated_words g.row.SLI h n c.args.len).answer) takes in record {
-      lawful = e.keeps.lawful;
+      lawful = e.frame.keeps.lawful;
       holds = subst (λ (k : HeapState). g.L.Ledger.holds g.row.SLI k c.give.new.self) (sym heap) (c.give.ensures.holds g.row.SLI _ c.in-Ok-allocate_words.name c.self.invariant.holds answer);
     }
 
-pub returns-clause-keeps : goal.returns-clause-keeps
-returns-clause-keeps g c = record { was = search rules; is = invariant_of-self-2 g c; stays = search rules; touches_rise = search rules }
+pub returns-clause-frame : goal.returns-clause-frame
+returns-clause-frame g c = record { limits = search rules; err = tt; keeps = record { was = search rules; is = invariant_of-self-2 g c; stays = search rules; touches_rise = search rules } }
 
 pub returns-clause-tells : goal.returns-clause-tells
 returns-clause-tells g c =

@@ -8,8 +8,8 @@ invariant_of-self g c =
     let p : PoolsState = record { id = c.self.inside.id; parts = c.self.inside.parts.items; extent = record { address = c.self.inside.parts.ptr; capacity = c.self.inside.parts.cap } } in
     let found : part_in p.parts c.args.len ≡ Some c.in-Some.part = sym (c.in-Some.ensures ∙ ap (λ (parts : List TableState). part_in parts c.args.len) c.deref.ensures.value) in
     let e = c.allocate.ensures in
-    lift_kept p c.in-Some.part c.index_mut.result.now c.allocate.new.self (part_of p c.args.len) found (part_has p.parts c.args.len c.in-Some.part found).0 c.index_mut.ensures.value g.row.SLI c.self.invariant e.keeps.is
-    (given_number g.row.SLI c.index_mut.result.now c.allocate.new.self c.args.len c.allocate.result (on_ok _ c.allocate.result e.tells.ok (λ admits. (e.allocates admits).heap)) e.err)
+    lift_kept p c.in-Some.part c.index_mut.result.now c.allocate.new.self (part_of p c.args.len) found (part_has p.parts c.args.len c.in-Some.part found).0 c.index_mut.ensures.value g.row.SLI c.self.invariant e.frame.keeps.is
+    (given_number g.row.SLI c.index_mut.result.now c.allocate.new.self c.args.len c.allocate.result (on_ok _ c.allocate.result e.tells.ok (λ admits. (e.allocates admits).heap)) e.frame.err)
 
 pub returns-clause-pools : goal.returns-clause-pools
 returns-clause-pools g c = invariant_of-self g c
@@ -24,11 +24,11 @@ returns-clause-allocates g c =
       answer_is = e.tells.name;
       allocates = on_ok _ c.allocate.result e.tells.ok e.allocates;
       counts = e.given;
-      err = e.err;
-      kinds = e.limits.kinds;
+      err = e.frame.err;
+      kinds = e.frame.limits.kinds;
       touches = e.few;
       given = left_given _ _ _ c.allocate.result heap e.tells.given;
-      rise = e.keeps.touches_rise;
+      rise = e.frame.keeps.touches_rise;
       leaves = e.leaves;
     } in
     subst (λ (q : PoolsState). IfSome (part_of q c.args.len) (λ i. Allocates g.row.SLI (part_at q i) (part_at (record { id = p.id; parts = set p.parts c.in-Some.part c.allocate.new.self; extent = p.extent }) i) c.args.len c.allocate.result)) c.self.view_is
@@ -101,7 +101,7 @@ returns-clause-kinds g c =
     let found : part_in p.parts c.args.len ≡ Some c.in-Some.part = sym (c.in-Some.ensures ∙ ap (λ (parts : List TableState). part_in parts c.args.len) c.deref.ensures.value) in
     let within = (part_has p.parts c.args.len c.in-Some.part found).0 in
     subst (λ (q : PoolsState). rows_in (set p.parts c.in-Some.part c.allocate.new.self) ≡ table_of q) c.self.view_is
-    (rows_kept p c.in-Some.part c.index_mut.result.now c.allocate.new.self within c.index_mut.ensures.value c.allocate.ensures.limits.kinds)
+    (rows_kept p c.in-Some.part c.index_mut.result.now c.allocate.new.self within c.index_mut.ensures.value c.allocate.ensures.frame.limits.kinds)
 
 pub returns-in_default-clause-no_row : goal.returns-in_default-clause-no_row
 returns-in_default-clause-no_row g c =
@@ -116,4 +116,4 @@ returns-clause-stays g c =
     let within = (part_has p.parts c.args.len c.in-Some.part found).0 in
     let e = c.allocate.ensures in
     subst (λ (q : PoolsState). Stay q (record { id = p.id; parts = set p.parts c.in-Some.part c.allocate.new.self; extent = p.extent })) c.self.view_is
-    (all_stay p c.in-Some.part c.index_mut.result.now c.allocate.new.self within c.index_mut.ensures.value e.keeps.stays e.limits.stays)
+    (all_stay p c.in-Some.part c.index_mut.result.now c.allocate.new.self within c.index_mut.ensures.value e.frame.keeps.stays e.frame.limits.stays)

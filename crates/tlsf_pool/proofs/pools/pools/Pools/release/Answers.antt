@@ -8,7 +8,7 @@ invariant_of-self g c =
     let p : PoolsState = record { id = c.self.inside.id; parts = c.self.inside.parts.items; extent = record { address = c.self.inside.parts.ptr; capacity = c.self.inside.parts.cap } } in
     let found : named_in p.id p.parts c.args.name ≡ Some c.in-Some.part = sym (c.in-Some.ensures ∙ ap (λ (parts : List TableState). named_in p.id parts c.args.name) c.deref.ensures.value) in
     let within = (named_within p.id p.parts c.args.name c.in-Some.part found).0 in
-    lift_kept p c.in-Some.part c.index_mut.result.now c.release.new.self (named_in p.id p.parts c.args.name) found within c.index_mut.ensures.value g.row.SLI c.self.invariant c.release.ensures.keeps.is
+    lift_kept p c.in-Some.part c.index_mut.result.now c.release.new.self (named_in p.id p.parts c.args.name) found within c.index_mut.ensures.value g.row.SLI c.self.invariant c.release.ensures.frame.keeps.is
     (taken_number c.index_mut.result.now c.release.new.self c.args.name c.release.ensures.releases.heap)
 
 pub returns-clause-pools : goal.returns-clause-pools
@@ -21,7 +21,7 @@ returns-clause-releases g c =
     let within = (named_within p.id p.parts c.args.name c.in-Some.part found).0 in
     let e = c.release.ensures in
     let made : Releases c.index_mut.result.now c.release.new.self c.args.name c.release.result =
-    record { releases = e.releases; counts = e.returned; err = e.err; kinds = e.limits.kinds } in
+    record { releases = e.releases; counts = e.returned; err = e.frame.err; kinds = e.frame.limits.kinds } in
     subst (λ (q : PoolsState). IfSome (part_named q c.args.name) (λ i. Releases (part_at q i) (part_at (record { id = p.id; parts = set p.parts c.in-Some.part c.release.new.self; extent = p.extent }) i) c.args.name c.release.result)) c.self.view_is
     (lift_both p c.in-Some.part c.index_mut.result.now c.release.new.self (named_in p.id p.parts c.args.name) found within c.index_mut.ensures.value (λ a b. Releases a b c.args.name c.release.result) made)
 
@@ -30,7 +30,7 @@ returns-clause-kinds g c =
     let p : PoolsState = record { id = c.self.inside.id; parts = c.self.inside.parts.items; extent = record { address = c.self.inside.parts.ptr; capacity = c.self.inside.parts.cap } } in
     let found : named_in p.id p.parts c.args.name ≡ Some c.in-Some.part = sym (c.in-Some.ensures ∙ ap (λ (parts : List TableState). named_in p.id parts c.args.name) c.deref.ensures.value) in
     subst (λ (q : PoolsState). rows_in (set p.parts c.in-Some.part c.release.new.self) ≡ table_of q) c.self.view_is
-    (rows_kept p c.in-Some.part c.index_mut.result.now c.release.new.self (named_within p.id p.parts c.args.name c.in-Some.part found).0 c.index_mut.ensures.value c.release.ensures.limits.kinds)
+    (rows_kept p c.in-Some.part c.index_mut.result.now c.release.new.self (named_within p.id p.parts c.args.name c.in-Some.part found).0 c.index_mut.ensures.value c.release.ensures.frame.limits.kinds)
 
 pub returns-clause-stays : goal.returns-clause-stays
 returns-clause-stays g c =
@@ -39,4 +39,4 @@ returns-clause-stays g c =
     let within = (named_within p.id p.parts c.args.name c.in-Some.part found).0 in
     let e = c.release.ensures in
     subst (λ (q : PoolsState). Stay q (record { id = p.id; parts = set p.parts c.in-Some.part c.release.new.self; extent = p.extent })) c.self.view_is
-    (all_stay p c.in-Some.part c.index_mut.result.now c.release.new.self within c.index_mut.ensures.value e.keeps.stays e.limits.stays)
+    (all_stay p c.in-Some.part c.index_mut.result.now c.release.new.self within c.index_mut.ensures.value e.frame.keeps.stays e.frame.limits.stays)

@@ -7,8 +7,8 @@ pub invariant_of-self : goal.invariant_of-self
 invariant_of-self g c =
     let p : PoolsState = record { id = c.self.inside.id; parts = c.self.inside.parts.items; extent = record { address = c.self.inside.parts.ptr; capacity = c.self.inside.parts.cap } } in
     let within : c.args.part < length p.parts = omega (arith, c.self.inside.parts.ok.0) in
-    kept g.row.SLI p c.args.part c.report.new.self c.self.invariant c.report.ensures.keeps.is
-    (ap (λ (h : HeapState). h.id) c.report.ensures.same.heap ∙ ap (λ (t : TableState). t.heap.id) (is_part p c.args.part c.index_mut.result.now within c.index_mut.ensures.value))
+    kept g.row.SLI p c.args.part c.report.new.self c.self.invariant c.report.ensures.frame.keeps.is
+    (ap (λ (h : HeapState). h.id) c.report.ensures.frame.same.heap ∙ ap (λ (t : TableState). t.heap.id) (is_part p c.args.part c.index_mut.result.now within c.index_mut.ensures.value))
 
 pub returns-clause-pools : goal.returns-clause-pools
 returns-clause-pools g c = invariant_of-self g c
@@ -18,7 +18,7 @@ returns-clause-kinds g c =
     let p : PoolsState = record { id = c.self.inside.id; parts = c.self.inside.parts.items; extent = record { address = c.self.inside.parts.ptr; capacity = c.self.inside.parts.cap } } in
     let within : c.args.part < length p.parts = omega (arith, c.self.inside.parts.ok.0) in
     subst (λ (q : PoolsState). rows_in (set p.parts c.args.part c.report.new.self) ≡ table_of q) c.self.view_is
-    (rows_kept p c.args.part c.index_mut.result.now c.report.new.self within c.index_mut.ensures.value (ap (λ (t : TableRows). t.kinds) c.report.ensures.same.ledger))
+    (rows_kept p c.args.part c.index_mut.result.now c.report.new.self within c.index_mut.ensures.value (ap (λ (t : TableRows). t.kinds) c.report.ensures.frame.same.ledger))
 
 pub returns-clause-stays : goal.returns-clause-stays
 returns-clause-stays g c =
@@ -26,4 +26,4 @@ returns-clause-stays g c =
     let within : c.args.part < length p.parts = omega (arith, c.self.inside.parts.ok.0) in
     let e = c.report.ensures in
     subst (λ (q : PoolsState). Stay q (record { id = p.id; parts = set p.parts c.args.part c.report.new.self; extent = p.extent })) c.self.view_is
-    (all_stay p c.args.part c.index_mut.result.now c.report.new.self within c.index_mut.ensures.value e.keeps.stays (ap (λ (t : TableRows). t.extents) e.same.ledger))
+    (all_stay p c.args.part c.index_mut.result.now c.report.new.self within c.index_mut.ensures.value e.frame.keeps.stays (ap (λ (t : TableRows). t.extents) e.frame.same.ledger))

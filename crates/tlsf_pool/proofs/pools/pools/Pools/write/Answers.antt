@@ -8,7 +8,7 @@ invariant_of-self g c =
     let p : PoolsState = record { id = c.self.inside.id; parts = c.self.inside.parts.items; extent = record { address = c.self.inside.parts.ptr; capacity = c.self.inside.parts.cap } } in
     let found : named_in p.id p.parts c.args.name ≡ Some c.in-Some.part = sym (c.in-Some.ensures ∙ ap (λ (parts : List TableState). named_in p.id parts c.args.name) c.deref.ensures.value) in
     let within = (named_within p.id p.parts c.args.name c.in-Some.part found).0 in
-    lift_kept p c.in-Some.part c.index_mut.result.now c.write.new.self (named_in p.id p.parts c.args.name) found within c.index_mut.ensures.value g.row.SLI c.self.invariant c.write.ensures.keeps.is
+    lift_kept p c.in-Some.part c.index_mut.result.now c.write.new.self (named_in p.id p.parts c.args.name) found within c.index_mut.ensures.value g.row.SLI c.self.invariant c.write.ensures.frame.keeps.is
     (written_number c.index_mut.result.now c.write.new.self c.args.name c.args.at c.args.bytes.now c.write.ensures.writes.heap)
 
 pub returns-clause-pools : goal.returns-clause-pools
@@ -19,7 +19,7 @@ returns-clause-kinds g c =
     let p : PoolsState = record { id = c.self.inside.id; parts = c.self.inside.parts.items; extent = record { address = c.self.inside.parts.ptr; capacity = c.self.inside.parts.cap } } in
     let found : named_in p.id p.parts c.args.name ≡ Some c.in-Some.part = sym (c.in-Some.ensures ∙ ap (λ (parts : List TableState). named_in p.id parts c.args.name) c.deref.ensures.value) in
     subst (λ (q : PoolsState). rows_in (set p.parts c.in-Some.part c.write.new.self) ≡ table_of q) c.self.view_is
-    (rows_kept p c.in-Some.part c.index_mut.result.now c.write.new.self (named_within p.id p.parts c.args.name c.in-Some.part found).0 c.index_mut.ensures.value (ap (λ (t : TableRows). t.kinds) c.write.ensures.ledger))
+    (rows_kept p c.in-Some.part c.index_mut.result.now c.write.new.self (named_within p.id p.parts c.args.name c.in-Some.part found).0 c.index_mut.ensures.value (ap (λ (t : TableRows). t.kinds) c.write.ensures.frame.ledger))
 
 pub returns-clause-stays : goal.returns-clause-stays
 returns-clause-stays g c =
@@ -28,4 +28,4 @@ returns-clause-stays g c =
     let within = (named_within p.id p.parts c.args.name c.in-Some.part found).0 in
     let e = c.write.ensures in
     subst (λ (q : PoolsState). Stay q (record { id = p.id; parts = set p.parts c.in-Some.part c.write.new.self; extent = p.extent })) c.self.view_is
-    (all_stay p c.in-Some.part c.index_mut.result.now c.write.new.self within c.index_mut.ensures.value e.keeps.stays (ap (λ (t : TableRows). t.extents) e.ledger))
+    (all_stay p c.in-Some.part c.index_mut.result.now c.write.new.self within c.index_mut.ensures.value e.frame.keeps.stays (ap (λ (t : TableRows). t.extents) e.frame.ledger))
