@@ -1,11 +1,13 @@
 -- The book of an arena, under the calls of its heap.
 use Rattle.tlsf_arena.proofs.Common.{◌≡◌, ◌≢◌, ℕ, ◌+◌, ◌<◌, ◌≤◌, Bool, true, false, cond, eqb, nat_le, nat_lt, ◌||◌, List, [], ◌∷◌, ◌++◌, length, Option, Some, Ok, refl, sym, ap, subst, ◌∙◌, arith, inl, inr, IsSome, eq-eqb, eqb-true, false≢true, cases_lt, nat_tests, Block, Live, Free, HeapState, size_of, bytes_of, words_in, Site, place_of, IsLawful, IsLive, allocated_words, fitted, first_free, has_serial, is_sized, past_free, recut, refitted, released, resized_words, room_of, Name, Holds, Loan, loan_of, name_of, units_of, is_out, same_loan, without, IsBook, held_units, lacking, IsLevel}
-use Rattle.tlsf_heap.specs.Steps.{Give}
+use Rattle.tlsf_heap.specs.Steps.{Fit, Give}
 use Rattle.tlsf_heap.proofs.lemmas.blocks.Find.{and_left, and_right}
 use Rattle.tlsf_heap.proofs.lemmas.words.NewBytes.{length-fitted}
 use Rattle.tlsf_heap.proofs.lemmas.laws.Lasting.{HasFrom, in_right}
 use Rattle.tlsf_heap.proofs.lemmas.laws.Live.{new_words}
-use Rattle.tlsf_heap.proofs.lemmas.calls.Outcomes.{by_resized_words, resizes}
+use Rattle.tlsf_heap.proofs.lemmas.calls.Outcomes.{by_resized_words, ids_step, resizes}
+use Rattle.tlsf_arena.specs.declared.book.Book.{Book}
+use Rattle.tlsf_arena.specs.declared.right.Right.{Right}
 use Rattle.tlsf_heap.proofs.lemmas.words.Recut.{cut_small, cut_large}
 use Rattle.tlsf_arena.proofs.Holding.{IsBlockOf, by_place, kept, stays_released, stays_resized}
 use Rattle.tlsf_arena.proofs.Mapped.{lacks}
@@ -109,7 +111,7 @@ no_second out h t k book there = by_bool (is_out (without t out) (loan_of (name_
     by_bool false e = refl
 
 -- a block has this many units from now on, and the others stay
-pub refits_one : (out : List Loan) (old new : HeapState) (t : Loan) (k : ℕ) → IsBook out old → is_out out t ≡ true → Holds new (name_of t) k → ((other : Name) (units : ℕ) → other ≢ name_of t → Holds old other units → Holds new other units)
+refits_one : (out : List Loan) (old new : HeapState) (t : Loan) (k : ℕ) → IsBook out old → is_out out t ≡ true → Holds new (name_of t) k → ((other : Name) (units : ℕ) → other ≢ name_of t → Holds old other units → Holds new other units)
     → IsBook (loan_of (name_of t) k ∷ without t out) new
 refits_one out old new t k book there holds others s = by_bool (same_loan (loan_of (name_of t) k) s) refl
   where
@@ -133,11 +135,24 @@ after_release old new name t out after book there own heap lawful is =
     let same = heap ∙ ap (λ (n : Name). (released old n).heap) (sym own) in
     subst (λ (l : List Loan). IsBook l new) (sym is) (takes_one out old new t book there (λ other units apart holds. stays_released old new other (name_of t) units lawful apart holds same))
 
--- a resize that was done
-pub after_resize : (old new : HeapState) (name : Name) (t : Loan) (k len : ℕ) (out after : List Loan) → IsBook out old → is_out out t ≡ true → name_of t ≡ name → len ≡ lacking k
-    → (resized_words old name k len).answer ≡ Ok tt → new ≡ (resized_words old name k len).heap → IsLawful new → after ≡ loan_of name k ∷ without t out → IsBook after new
-after_resize old new name t k len out after book there own lack answer heap lawful is =
-    let holds = subst (λ (h : HeapState). Holds h name k) (sym heap) (holds_resized old name k len (subst (Tells k) (sym lack) (lacks k)) answer (subst IsLawful heap lawful)) in
-    subst (λ (l : List Loan). IsBook l new) (sym (is ∙ ap (λ (n : Name). loan_of n k ∷ without t out) (sym own)))
-    (refits_one out old new t k book there (subst (λ (n : Name). Holds new n k) (sym own) holds)
-    (λ other units apart its. stays_resized old new other (name_of t) units lawful apart its k len (heap ∙ ap (λ (n : Name). (resized_words old n k len).heap) (sym own))))
+-- the same number, and the book with the units that are wanted now
+pub id_resized : {was old new : HeapState} (name : Name) (n lack id : ℕ) → old ≡ was → new ≡ (resized_words old name n lack).heap → id ≡ was.id → id ≡ new.id
+id_resized {was} {old} {new} name n lack id value heap is = is ∙ ap (λ (h : HeapState). h.id) (sym value) ∙ sym (ap (λ (h : HeapState). h.id) heap ∙ ids_step 0 old (Fit name n lack))
+
+module _ {was old : HeapState} {book now : Book} {right again : Right} {name : Name} (n : ℕ) (value : old ≡ was) (in_book : IsBook book.out was) (known : (now ≡ book) × (again ≡ right) × (is_out book.out right.loan ≡ true)) (own : name_of right.loan ≡ name) where
+  -- the book may give the right for another number of units
+  pub may_refit : right.book ≡ book.name → (again.book ≡ now.name) × (is_out (without again.loan now.out) (loan_of name n) ≡ false)
+  may_refit ours = (
+    ap (λ (r : Right). r.book) known.1 ∙ ours ∙ sym (ap (λ (b : Book). b.name) known.0),
+    (λ i. is_out (without (known.1 i).loan (known.0 i).out) (loan_of (sym own i) n)) ∙ no_second book.out was right.loan n in_book known.2,
+  )
+
+  -- it is one of the heap after
+  pub book_resized : {new : HeapState} (lack : ℕ) (after : List Loan) → lack ≡ lacking n → Ok tt ≡ (resized_words old name n lack).answer → new ≡ (resized_words old name n lack).heap → IsLawful new
+      → after ≡ loan_of name n ∷ without again.loan now.out → IsBook after new
+  book_resized {new} lack after fills answer heap lawful is =
+      let t = right.loan in
+      let holds = subst (λ (h : HeapState). Holds h name n) (sym heap) (holds_resized old name n lack (subst (Tells n) (sym fills) (lacks n)) (sym answer) (subst IsLawful heap lawful)) in
+      subst (λ (l : List Loan). IsBook l new) (sym (is ∙ (λ i. loan_of (sym own i) n ∷ without (known.1 i).loan (known.0 i).out)))
+      (refits_one book.out old new t n (subst (IsBook book.out) (sym value) in_book) known.2 (subst (λ (m : Name). Holds new m n) (sym own) holds)
+      (λ other units apart its. stays_resized old new other (name_of t) units lawful apart its n lack (heap ∙ ap (λ (m : Name). (resized_words old m n lack).heap) (sym own))))

@@ -1,6 +1,6 @@
 -- The names that most proofs of this crate cite, passed on from one place. Declares nothing.
-pub use Rattle.std.proofs.Common.{◌≡◌, List, ◌∷◌, refl, [], sym, ◌∙◌, ap, ◌++◌, ℕ, ◌*◌, arith, ◌+◌, subst, ◌<◌, true, ◌^◌, ◌≤◌, w64, ◌/◌, ◌-◌, false, Bool, Some, length, replicate, Ok, ◌%◌, None, eqb, inl, inr, suc, Option, lit<, Err, append_assoc, length-append, cond, take, zero, ◌&&◌, ◌||◌, ◌≢◌, IfSome, T, Vec, drop, nat_le, nat_lt, MatchResult, T_not, eq-eqb, eqb→eq, if◌then◌else◌, ltb, mul-le-mul_left, mul_assoc, not, pow_mono, suc-mul, w32, w8, ◌==◌}
-pub use Rattle.std.specs.Prelude.{IsSome, option_map}
+pub use Rattle.std.proofs.Common.{◌≡◌, List, ◌∷◌, refl, [], sym, ◌∙◌, ap, ◌++◌, ℕ, ◌*◌, arith, ◌+◌, subst, ◌<◌, true, ◌^◌, ◌≤◌, w64, ◌/◌, ◌-◌, false, Bool, Some, length, replicate, Ok, ◌%◌, None, eqb, inl, inr, suc, Option, lit<, Err, append_assoc, length-append, cond, take, zero, ◌&&◌, ◌||◌, ◌≢◌, IfSome, T, Vec, drop, nat_le, nat_lt, MatchResult, Result, rules, T_not, eq-eqb, eqb→eq, if◌then◌else◌, ltb, mul-le-mul_left, mul_assoc, not, pow_mono, suc-mul, w32, w8, ◌==◌}
+pub use Rattle.std.specs.Prelude.{IsSome, OnErr, option_map}
 pub use Rattle.core.proofs.alloc.Calls.{Goes-blank, Answer, Answer-Ok, Answer-err, answer_val, Al, seen, Answered, Gives, Gives-Gives, Gives-goes, Takes, Takes-gives, Takes-goes, answers, at_gives, at_takes}
 pub use Rattle.core.proofs.alloc.Shapes.{after, arm_body, head}
 pub use Rattle.core.proofs.atomic.Steps.{fm}
@@ -17,7 +17,7 @@ pub use Rattle.std.specs.List.{AllByRecursion}
 pub use Rattle.std_alloc.proofs.Pairs.{pair_of, pair_val, pair_Typed}
 pub use Rattle.std_alloc.proofs.ResultValues.{and_tt}
 pub use Rattle.std_alloc.specs.Vec.Ownership.{lodged, has_block, owns_if}
-pub use Rattle.tlsf_arena.specs.Arenas.{Holds, IsMapped}
+pub use Rattle.tlsf_arena.specs.Arenas.{ArenaState, Holds, IsMapped, SameArena, SameHome}
 pub use Rattle.tlsf_arena.specs.Loans.{Loan, IsBook, is_out, without, right, units_of, rest_of, loan_of, name_of, same_loan, IsLoan, rights, row}
 pub use Rattle.tlsf_arena.specs.Ownership.{Home, behind, ways, whole_token, free_rooms, ints, IsLoanAt, block_token}
 pub use Rattle.tlsf_arena.specs.Units.{IsUnit, piece_size, IsPiece, IsRun, marked, held_at, free_map, free_units_in, held_units, lacking, spread, grain_of, units_for, held_in}
@@ -29,3 +29,4 @@ pub use Rattle.tlsf_heap.specs.Lawful.{IsLawful, HasRoom, IsRegion}
 pub use Rattle.tlsf_heap.specs.Laws.{IsLive}
 pub use Rattle.tlsf_heap.specs.Placed.{placed_at, placed}
 pub use Rattle.tlsf_heap.specs.declared.name.Name.{Name}
+pub use Rattle.tlsf_heap.specs.declared.refusal.Refusal.{Refusal}

@@ -3,6 +3,7 @@ mod Walking
 pub mod Books
 pub mod Buffers
 pub mod Cell
+pub mod Effects
 pub mod Holding
 pub mod Lodging
 pub mod Mapped

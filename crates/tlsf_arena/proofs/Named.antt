@@ -45,16 +45,27 @@ words_mapped sli u units h free mapped lawful =
     by_unit (λ u. u / 16 * words_in h.blocks ≡ u / 16 * units → words_in h.blocks ≡ units) (λ e. omega (arith, e)) (λ e. omega (arith, e)) (λ e. omega (arith, e)) u mapped.unit
     (ap (λ (k : ℕ). u / 16 * k) (sym (length-map h.blocks lawful.rooms)) ∙ sym (length-spread (u / 16) (free_map h.blocks)) ∙ sym (ap length mapped.map) ∙ mapped.whole)
 
--- ---- a block that is held, sought by its address p in the memory at b
+-- ---- a block that a state as h holds, sought by its address p in memory from `start` on, which lies at b
 
-module _ (sli u units : ℕ) (h : HeapState) (free : List Bool) (mapped : IsMapped sli u units h free) (lawful : IsLawful h) (name : Name) (k : ℕ) (holds : Holds h name k) (b p : ℕ) (here : p ≡ b + u * name.at) where
+module _ (sli u units : ℕ) (h : HeapState) (free : List Bool) (mapped : IsMapped sli u units h free) (lawful : IsLawful h) (now : HeapState) (same : h ≡ now) (b start p : ℕ) (base : b ≡ start) (name : Name) (k : ℕ)
+    (there : p ≡ start + u * name.at) (its : Holds now name k) where
+  here : p ≡ b + u * name.at
+  here = there ∙ ap (λ (j : ℕ). j + u * name.at) (sym base)
+
+  holds : Holds h name k
+  holds = subst (λ (h : HeapState). Holds h name k) (sym same) its
+
   -- it is one of the units
-  pub one_unit : name.at < units
+  one_unit : name.at < units
   one_unit = subst (λ (m : ℕ). name.at < m) (words_mapped sli u units h free mapped lawful) (place_within h name holds.0 lawful holds.2)
 
   -- it begins at a unit
   pub at_a_unit : ((at : ℕ) → at < units → p ≢ b + u * at) → ⊥
   at_a_unit none = none name.at one_unit here
+
+  -- a guess that is the place is one of the units, and right
+  pub right_guess : (guess : ℕ) → guess ≡ name.at → (guess < units) × (p ≡ b + u * guess)
+  right_guess guess is = (subst (λ (j : ℕ). j < units) (sym is) one_unit, here ∙ ap (λ (j : ℕ). b + u * j) (sym is))
 
   module _ (at : ℕ) (found : p ≡ b + u * at) where
     same_place : at ≡ name.at

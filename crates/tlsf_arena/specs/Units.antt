@@ -1,7 +1,8 @@
 -- Units in a region, the pieces that are cut from it, and the maps of what no live block holds.
 use Rattle.std.specs.Prelude.{◌≡◌, ℕ, ◌+◌, ◌-◌, ◌*◌, ◌/◌, ◌%◌, ◌^◌, ◌<◌, ◌≤◌, max, Bool, true, false, ◌||◌, ◌==◌, IsTrue, List, [], ◌∷◌, ◌++◌, length, replicate, take, drop, Option, Some, None}
-use denote.RawPtr.{Ptr, block_ptr}
+use denote.RawPtr.{Ptr, block_ptr, block_of, count_of, InBlock}
 use Rattle.linked_list_allocator.specs.Region.{Region}
+use Rattle.tlsf_class.specs.Classes.{IsLevel}
 use Rattle.tlsf_heap.specs.Blocks.{Block, Live, Free}
 use Rattle.tlsf_heap.specs.Placed.{placed_at}
 use Rattle.tlsf_heap.specs.declared.placed_block.PlacedBlock.{PlacedBlock}
@@ -14,6 +15,10 @@ use Rattle.tlsf_heap.specs.declared.placed_block.Content.TheVariants as content
 abbrev pub IsUnit : ℕ → Type 0
 IsUnit u = IsTrue (u == 16 || (u == 32 || u == 64))
 
+-- a level and the bytes of a unit that an arena may have
+abbrev pub IsArenaOf : ℕ → ℕ → Type 0
+IsArenaOf sli u = IsLevel sli × IsUnit u
+
 -- the units of u bytes that n bytes get: a block of the heap has four words or more
 abbrev pub units_for : ℕ → ℕ → ℕ
 units_for u n = max 4 ((n + (u - 1)) / u)
@@ -25,6 +30,11 @@ piece_size u n = u * units_for u n
 -- what k units lack of a multiple of four: the payload length of a block that is asked for k units, 0 to 3 bytes
 abbrev pub lacking : ℕ → ℕ
 lacking k = (4 - k % 4) % 4
+
+-- an address and memory at `base` that lies in one object with it and is cut into this many units of u bytes
+pub record AreUnits (ptr base : Ptr) (u units : ℕ) : Type 0 where
+  pub pointers : InBlock base × InBlock ptr × (block_of ptr ≡ block_of base) × (count_of base + u * units < 2 ^ 63) × (count_of ptr < 2 ^ 63)
+  pub unit : IsUnit u
 
 -- ---- pieces
 

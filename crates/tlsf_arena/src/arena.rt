@@ -1,18 +1,17 @@
-ghost use Rattle.std.specs.Prelude.{true, ◌≡◌, ◌≢◌, ℕ, ◌+◌, ◌-◌, ◌*◌, ◌/◌, ◌%◌, ◌^◌, ◌<◌, ◌≤◌, ◌↔◌, false, [], length, Ok, Err, IfOk, IfErr, IfSome, IsOk, IsSome, IsErrOf, OnErr, OnOk, MatchResult, Some, option_map};
+ghost use Rattle.std.specs.Prelude.{true, ◌≡◌, ◌≢◌, ℕ, ◌+◌, ◌-◌, ◌*◌, ◌/◌, ◌^◌, ◌<◌, ◌≤◌, ◌↔◌, false, [], length, Ok, Err, IfOk, IfErr, IfSome, IsOk, IsSome, IsErrOf, OnErr, MatchResult, Some, option_map};
 ghost use denote.RawPtr.{block_of, count_of, InBlock};
 ghost use Rattle.linked_list_allocator.specs.Region.{region_of};
-ghost use Rattle.tlsf_class.specs.Classes.{IsLevel};
-ghost use Rattle.tlsf_heap.specs.Blocks.{HeapState};
-ghost use Rattle.tlsf_heap.specs.Calls.{last_tick, opened, released, resized_words};
+ghost use Rattle.tlsf_heap.specs.Calls.{last_tick, opened};
 ghost use Rattle.tlsf_heap.specs.GoodFit.{fits};
 ghost use Rattle.tlsf_heap.specs.Lawful.{IsLawful, IsRegion};
 ghost use Rattle.tlsf_heap.specs.Placed.{placed_at};
 ghost use Rattle.tlsf_heap.specs.Reports.{report_of};
 ghost use Rattle.tlsf_heap.specs.Touched.{FollowsNoPlace};
 ghost use Rattle.tlsf_heap.specs.declared.name.Name.{Name};
-ghost use Rattle.tlsf_arena.specs.Arenas.{Holds, IsFoundByGuess, IsMapped, SameArena, SameHome, refitted, requested};
-ghost use Rattle.tlsf_arena.specs.Loans.{IsLoan, loan_of, name_of, units_of};
-ghost use Rattle.tlsf_arena.specs.Units.{IsPiece, IsUnit, lacking, units_for, piece_size, held_at, free_units_in};
+ghost use Rattle.tlsf_arena.specs.Arenas.{Holds, IsFoundByGuess, IsMapped, SameArena, SameHome, requested};
+ghost use Rattle.tlsf_arena.specs.Effects.{HasHome, IsLent, IsRightAt, IsRightFor, Looks, Releases, Resizes, Seeks, Takes, answer_of};
+ghost use Rattle.tlsf_arena.specs.Loans.{loan_of, name_of, units_of};
+ghost use Rattle.tlsf_arena.specs.Units.{IsArenaOf, IsUnit, lacking, units_for, piece_size, held_at, free_units_in};
 ghost use Rattle.tlsf_heap.specs.ByPlace.{serial_at};
 
 use crate::block::Block;
@@ -77,8 +76,7 @@ impl<const SLI: u32, const UNIT: usize> Arena<SLI, UNIT> {
     /// Arena::<4, 64>::open(alloc, 0, 3).err() == Some(OpenFault::BadSize)
     /// ```
     pub fn open(alloc: Global, id: u32, units: u32) -> Result<Arena<SLI, UNIT>, OpenFault>
-        requires level { IsLevel SLI }
-        requires unit { IsUnit UNIT }
+        requires kind { IsArenaOf SLI UNIT }
         ensures heap { IfOk result (λ a. a.heap ≡ opened id units 0) }
         ensures region { IfOk result (λ a. a.region.end ≡ a.region.start + UNIT * units) }
         ensures leased { IfOk result (λ a. a.leased ≡ true) }
@@ -121,8 +119,7 @@ impl<const SLI: u32, const UNIT: usize> Arena<SLI, UNIT> {
         units: u32,
         memory: Memory,
     ) -> Result<Arena<SLI, UNIT>, (OpenFault, Memory)>
-        requires level { IsLevel SLI }
-        requires unit { IsUnit UNIT }
+        requires kind { IsArenaOf SLI UNIT }
         requires size { memory.size ≡ UNIT * units }
         requires place { count_of memory.ptr + memory.size < 2 ^ 63 }
         ensures heap { IfOk result (λ a. a.heap ≡ opened id units 0) }
@@ -224,9 +221,7 @@ impl<const SLI: u32, const UNIT: usize> Arena<SLI, UNIT> {
         ensures home { SameHome self.old self.new }
 
         // Accepted or refused, whatever the length: at most 64 touches.
-        ensures touches { self.new.touches ≤ self.old.touches + 64 }
-        ensures touches_rise { self.old.touches ≤ self.new.touches }
-        ensures compared { self.new.compared ≡ self.old.compared }
+        ensures takes { Takes 64 self.old self.new }
     {
         let heap = &mut self.heap;
         let units = units_of(len as usize, UNIT) as u32;
@@ -250,21 +245,10 @@ impl<const SLI: u32, const UNIT: usize> Arena<SLI, UNIT> {
     /// arena.release(block).is_ok()
     /// ```
     pub fn release(&mut self, block: Block<UNIT>) -> Result<(), (Refusal, Block<UNIT>)>
-        requires region { block.piece.region ≡ self.old.region }
-        requires book { block.right.book ≡ self.old.book }
-        ensures answer { MatchResult result (λ _. (released self.old.heap block.entry.name).answer ≡ Ok tt) (λ e. (released self.old.heap block.entry.name).answer ≡ Err e.0) }
-        ensures heap { self.new.heap ≡ (released self.old.heap block.entry.name).heap }
-
-        // This comes to: a block that is out is live. A refusal, which comes at the last tick alone, changes nothing and gives it
-        // back.
-        ensures live { Holds self.old.heap block.entry.name (units_of block.entry.right.loan) }
-        ensures worn { IfErr result (λ e. e.0 ≡ Refusal.Worn) }
-        ensures err { IfErr result (λ e. (self.new.heap ≡ self.old.heap) × (e.1 ≡ block.entry)) }
-        ensures others { (other : Name) (units : ℕ) → other ≢ block.entry.name → Holds self.old.heap other units → Holds self.new.heap other units }
-        ensures home { SameHome self.old self.new }
-        ensures touches { self.new.touches ≤ self.old.touches + 60 }
-        ensures touches_rise { self.old.touches ≤ self.new.touches }
-        ensures compared { self.new.compared ≡ self.old.compared }
+        requires own { HasHome self.old.region self.old.book block }
+        ensures releases { Releases self.old self.new block.entry.name (units_of block.entry.right.loan) (answer_of (λ e. e.0) result) }
+        ensures back { IfErr result (λ e. e.1 ≡ block.entry) }
+        ensures takes { Takes 60 self.old self.new }
     {
         let Block { name, piece, right } = block;
         match self.give(name, piece, right) {
@@ -280,20 +264,10 @@ impl<const SLI: u32, const UNIT: usize> Arena<SLI, UNIT> {
         piece: Piece,
         right: Right,
     ) -> Result<(), (Refusal, Piece, Right)>
-        requires region { piece.region ≡ self.old.region }
-        requires book { right.book ≡ self.old.book }
-        requires loan { IsLoan UNIT right.loan name piece.size }
-        requires place { piece.at ≡ piece.region.start + UNIT * name.at }
-        ensures answer { MatchResult result (λ _. (released self.old.heap name).answer ≡ Ok tt) (λ e. (released self.old.heap name).answer ≡ Err e.0) }
-        ensures heap { self.new.heap ≡ (released self.old.heap name).heap }
-        ensures live { Holds self.old.heap name (units_of right.loan) }
-        ensures worn { IfErr result (λ e. e.0 ≡ Refusal.Worn) }
-        ensures err { IfErr result (λ e. (self.new.heap ≡ self.old.heap) × (e.1 ≡ piece) × (e.2 ≡ right)) }
-        ensures lawful { IsLawful self.new.heap }
-        ensures home { SameHome self.old self.new }
-        ensures compared { self.new.compared ≡ self.old.compared }
-        ensures touches { self.new.touches ≤ self.old.touches + 60 }
-        ensures touches_rise { self.old.touches ≤ self.new.touches }
+        requires lent { IsLent UNIT self.old name piece right }
+        ensures releases { Releases self.old self.new name (units_of right.loan) (answer_of (λ e. e.0) result) }
+        ensures back { IfErr result (λ e. (e.1 ≡ piece) × (e.2 ≡ right)) }
+        ensures takes { Takes 60 self.old self.new }
     {
         let right = replace_with(&mut self.book, right, Book::beside);
         match self.heap.release(name) {
@@ -316,31 +290,17 @@ impl<const SLI: u32, const UNIT: usize> Arena<SLI, UNIT> {
     /// let Block { name, piece, right } = arena.allocate(100)?;
     /// arena.release_at(piece, right, (name.at, 0)).is_ok()
     /// ```
+    #[tactic(auto, using(crate::proofs::Effects::releases_later))]
     pub fn release_at(
         &mut self,
         piece: Piece,
         right: Right,
         guesses: (u32, u32),
     ) -> Result<(), (Refusal, Piece, Right)>
-        requires region { piece.region ≡ self.old.region }
-        requires book { right.book ≡ self.old.book }
-        requires loan { piece.size ≡ UNIT * units_of right.loan }
-        requires place { piece.at ≡ piece.region.start + UNIT * (name_of right.loan).at }
-        ensures answer { MatchResult result (λ _. (released self.old.heap (name_of right.loan)).answer ≡ Ok tt) (λ e. (released self.old.heap (name_of right.loan)).answer ≡ Err e.0) }
-        ensures heap { self.new.heap ≡ (released self.old.heap (name_of right.loan)).heap }
-
-        // This comes to: a block that is out is live. A refusal, which comes at the last tick alone, changes nothing and gives it
-        // back.
-        ensures live { Holds self.old.heap (name_of right.loan) (units_of right.loan) }
-        ensures worn { IfErr result (λ e. e.0 ≡ Refusal.Worn) }
-        ensures err { IfErr result (λ e. (self.new.heap ≡ self.old.heap) × (e.1 ≡ piece) × (e.2 ≡ right)) }
-        ensures home { SameHome self.old self.new }
-
-        // However many units there are: at most 27 comparisons, and 64 touches.
-        ensures compared { self.new.compared ≤ self.old.compared + 27 }
-        ensures guessed { IsFoundByGuess (name_of right.loan).at guesses self.old.compared self.new.compared }
-        ensures touches { self.new.touches ≤ self.old.touches + 64 }
-        ensures touches_rise { self.old.touches ≤ self.new.touches }
+        requires lent { IsLent UNIT self.old (name_of right.loan) piece right }
+        ensures releases { Releases self.old self.new (name_of right.loan) (units_of right.loan) (answer_of (λ e. e.0) result) }
+        ensures back { IfErr result (λ e. (e.1 ≡ piece) × (e.2 ≡ right)) }
+        ensures seeks { Seeks 64 (name_of right.loan).at guesses self.old self.new }
     {
         let (ptr, piece) = piece.with_ptr();
         let (name, right) = self.found(ptr, right, guesses);
@@ -356,10 +316,7 @@ impl<const SLI: u32, const UNIT: usize> Arena<SLI, UNIT> {
         ensures right { result.1 ≡ right }
         ensures live { Holds self.old.heap (name_of right.loan) (units_of right.loan) }
         ensures same { SameArena self.old self.new }
-        ensures compared { self.new.compared ≤ self.old.compared + 27 }
-        ensures guessed { IsFoundByGuess (name_of right.loan).at guesses self.old.compared self.new.compared }
-        ensures touches { self.new.touches ≤ self.old.touches + 4 }
-        ensures touches_rise { self.old.touches ≤ self.new.touches }
+        ensures seeks { Seeks 4 (name_of right.loan).at guesses self.old self.new }
     {
         let right = self.known(right);
         let Some((name, _)) = self.live_at(ptr, guesses) else {
@@ -374,9 +331,7 @@ impl<const SLI: u32, const UNIT: usize> Arena<SLI, UNIT> {
         requires { right.book ≡ self.old.book }
         ensures live { Holds self.old.heap (name_of right.loan) (units_of right.loan) }
         ensures right { result ≡ right }
-        ensures same { SameArena self.old self.new }
-        ensures compared { self.new.compared ≡ self.old.compared }
-        ensures touches { self.new.touches ≡ self.old.touches }
+        ensures looks { Looks 0 self.old self.new }
     {
         replace_with(&mut self.book, right, Book::beside)
     }
@@ -396,21 +351,11 @@ impl<const SLI: u32, const UNIT: usize> Arena<SLI, UNIT> {
         block: Block<UNIT>,
         len: u32,
     ) -> Result<Block<UNIT>, (Refusal, Block<UNIT>)>
-        requires region { block.piece.region ≡ self.old.region }
-        requires book { block.right.book ≡ self.old.book }
-        ensures answer { MatchResult result (λ _. (refitted UNIT self.old.heap block.entry.name len).answer ≡ Ok tt) (λ e. (refitted UNIT self.old.heap block.entry.name len).answer ≡ Err e.0) }
-        ensures heap { self.new.heap ≡ (refitted UNIT self.old.heap block.entry.name len).heap }
-
-        // This comes to the following.
+        requires own { HasHome self.old.region self.old.book block }
+        ensures resizes { Resizes UNIT len self.old self.new block.entry.name (units_of block.entry.right.loan) (answer_of (λ e. e.0) result) }
         ensures block { IfOk result (λ b. (b.name ≡ block.entry.name) × (b.piece.region ≡ self.old.region) × (b.right.book ≡ self.old.book) × (b.piece.at ≡ block.entry.piece.at) × (b.piece.size ≡ piece_size UNIT len)) }
-        ensures live { Holds self.old.heap block.entry.name (units_of block.entry.right.loan) }
-        ensures named { IfErr result (λ e. (e.0 ≢ Refusal.Stale) × (e.0 ≢ Refusal.Foreign)) }
-        ensures err { IfErr result (λ e. (self.new.heap ≡ self.old.heap) × (e.1 ≡ block.entry)) }
-        ensures others { (other : Name) (units : ℕ) → other ≢ block.entry.name → Holds self.old.heap other units → Holds self.new.heap other units }
-        ensures home { SameHome self.old self.new }
-        ensures touches { self.new.touches ≤ self.old.touches + 64 }
-        ensures touches_rise { self.old.touches ≤ self.new.touches }
-        ensures compared { self.new.compared ≡ self.old.compared }
+        ensures back { IfErr result (λ e. e.1 ≡ block.entry) }
+        ensures takes { Takes 64 self.old self.new }
     {
         let Block { name, piece, right } = block;
         match self.refit(name, len, piece, right) {
@@ -427,22 +372,12 @@ impl<const SLI: u32, const UNIT: usize> Arena<SLI, UNIT> {
         piece: Piece,
         right: Right,
     ) -> Result<(Piece, Right), (Refusal, Piece, Right)>
-        requires region { piece.region ≡ self.old.region }
-        requires book { right.book ≡ self.old.book }
-        requires loan { IsLoan UNIT right.loan name piece.size }
-        requires place { piece.at ≡ piece.region.start + UNIT * name.at }
-        ensures answer { MatchResult result (λ _. (refitted UNIT self.old.heap name len).answer ≡ Ok tt) (λ e. (refitted UNIT self.old.heap name len).answer ≡ Err e.0) }
-        ensures heap { self.new.heap ≡ (refitted UNIT self.old.heap name len).heap }
+        requires lent { IsLent UNIT self.old name piece right }
+        ensures resizes { Resizes UNIT len self.old self.new name (units_of right.loan) (answer_of (λ e. e.0) result) }
         ensures piece { IfOk result (λ r. (r.0.region ≡ self.old.region) × (r.0.at ≡ piece.at) × (r.0.size ≡ piece_size UNIT len)) }
         ensures right { IfOk result (λ r. (r.1.book ≡ self.old.book) × (r.1.loan ≡ loan_of name (units_for UNIT len))) }
-        ensures live { Holds self.old.heap name (units_of right.loan) }
-        ensures named { IfErr result (λ e. (e.0 ≢ Refusal.Stale) × (e.0 ≢ Refusal.Foreign)) }
-        ensures err { IfErr result (λ e. (self.new.heap ≡ self.old.heap) × (e.1 ≡ piece) × (e.2 ≡ right)) }
-        ensures lawful { IsLawful self.new.heap }
-        ensures home { SameHome self.old self.new }
-        ensures touches { self.new.touches ≤ self.old.touches + 64 }
-        ensures touches_rise { self.old.touches ≤ self.new.touches }
-        ensures compared { self.new.compared ≡ self.old.compared }
+        ensures back { IfErr result (λ e. (e.1 ≡ piece) × (e.2 ≡ right)) }
+        ensures takes { Takes 64 self.old self.new }
     {
         let right = replace_with(&mut self.book, right, Book::beside);
         let units = units_of(len as usize, UNIT) as u32;
@@ -478,23 +413,13 @@ impl<const SLI: u32, const UNIT: usize> Arena<SLI, UNIT> {
         size: usize,
         len: u32,
     ) -> Result<(Piece, Right), (Refusal, Right)>
-        requires book { right.book ≡ self.old.book }
-        requires loan { IsLoan UNIT right.loan name size }
+        requires right { IsRightFor UNIT self.old name right size }
         requires longer { size < piece_size UNIT len }
-        ensures answer { MatchResult result (λ _. (refitted UNIT self.old.heap name len).answer ≡ Ok tt) (λ e. (refitted UNIT self.old.heap name len).answer ≡ Err e.0) }
-        ensures heap { self.new.heap ≡ (refitted UNIT self.old.heap name len).heap }
-
-        // This comes to the following.
+        ensures resizes { Resizes UNIT len self.old self.new name (units_of right.loan) (answer_of (λ e. e.0) result) }
         ensures rest { IfOk result (λ r. (r.0.region ≡ self.old.region) × (r.0.at ≡ self.old.region.start + UNIT * name.at + size) × (size + r.0.size ≡ piece_size UNIT len)) }
         ensures right { IfOk result (λ r. (r.1.book ≡ self.old.book) × (r.1.loan ≡ loan_of name (units_for UNIT len))) }
-        ensures live { Holds self.old.heap name (units_of right.loan) }
-        ensures named { IfErr result (λ e. (e.0 ≢ Refusal.Stale) × (e.0 ≢ Refusal.Foreign)) }
-        ensures err { IfErr result (λ e. (self.new.heap ≡ self.old.heap) × (e.1 ≡ right)) }
-        ensures others { (other : Name) (units : ℕ) → other ≢ name → Holds self.old.heap other units → Holds self.new.heap other units }
-        ensures home { SameHome self.old self.new }
-        ensures compared { self.new.compared ≡ self.old.compared }
-        ensures touches { self.new.touches ≤ self.old.touches + 64 }
-        ensures touches_rise { self.old.touches ≤ self.new.touches }
+        ensures back { IfErr result (λ e. e.1 ≡ right) }
+        ensures takes { Takes 64 self.old self.new }
     {
         let right = replace_with(&mut self.book, right, Book::beside);
         let units = units_of(len as usize, UNIT) as u32;
@@ -512,6 +437,7 @@ impl<const SLI: u32, const UNIT: usize> Arena<SLI, UNIT> {
     }
 
     /// [`Arena::extend`] of a block that has lost its name: its address tells the place.
+    #[tactic(auto, using(crate::proofs::Effects::resizes_later))]
     pub(crate) fn extend_at(
         &mut self,
         ptr: *mut u8,
@@ -520,17 +446,13 @@ impl<const SLI: u32, const UNIT: usize> Arena<SLI, UNIT> {
         len: u32,
         guesses: (u32, u32),
     ) -> Result<(Piece, Right), (Refusal, Right)>
-        requires place { IsPiece self.old.region ptr (count_of ptr) size }
-        requires book { right.book ≡ self.old.book }
-        requires loan { (count_of ptr ≡ self.old.region.start + UNIT * (name_of right.loan).at) × (size ≡ UNIT * units_of right.loan) }
+        requires right { IsRightAt UNIT self.old ptr right size }
         requires longer { size < piece_size UNIT len }
+        ensures resizes { Resizes UNIT len self.old self.new (name_of right.loan) (units_of right.loan) (answer_of (λ e. e.0) result) }
         ensures rest { IfOk result (λ r. (r.0.region ≡ self.old.region) × (r.0.at ≡ count_of ptr + size) × (size + r.0.size ≡ piece_size UNIT len)) }
         ensures right { IfOk result (λ r. (r.1.book ≡ self.old.book) × (r.1.loan ≡ loan_of (name_of right.loan) (units_for UNIT len))) }
-        ensures named { IfErr result (λ e. (e.0 ≢ Refusal.Stale) × (e.0 ≢ Refusal.Foreign)) }
-        ensures err { IfErr result (λ e. e.1 ≡ right) }
-        ensures home { SameHome self.old self.new }
-        ensures compared { self.new.compared ≤ self.old.compared + 27 }
-        ensures touches { self.new.touches ≤ self.old.touches + 68 }
+        ensures back { IfErr result (λ e. e.1 ≡ right) }
+        ensures seeks { Seeks 68 (name_of right.loan).at guesses self.old self.new }
     {
         let (name, right) = self.found(ptr, right, guesses);
         self.extend(name, right, size, len)
@@ -552,22 +474,12 @@ impl<const SLI: u32, const UNIT: usize> Arena<SLI, UNIT> {
         len: u32,
     ) -> Result<Right, (Refusal, Piece, Right)>
         requires region { tail.region ≡ self.old.region }
-        requires book { right.book ≡ self.old.book }
-        requires loan { IsLoan UNIT right.loan name (piece_size UNIT len + tail.size) }
+        requires right { IsRightFor UNIT self.old name right (piece_size UNIT len + tail.size) }
         requires place { tail.at ≡ tail.region.start + UNIT * name.at + piece_size UNIT len }
-        ensures answer { MatchResult result (λ _. (refitted UNIT self.old.heap name len).answer ≡ Ok tt) (λ e. (refitted UNIT self.old.heap name len).answer ≡ Err e.0) }
-        ensures heap { self.new.heap ≡ (refitted UNIT self.old.heap name len).heap }
-
-        // This comes to the following.
+        ensures resizes { Resizes UNIT len self.old self.new name (units_of right.loan) (answer_of (λ e. e.0) result) }
         ensures right { IfOk result (λ r. (r.book ≡ self.old.book) × (r.loan ≡ loan_of name (units_for UNIT len))) }
-        ensures live { Holds self.old.heap name (units_of right.loan) }
-        ensures named { IfErr result (λ e. (e.0 ≢ Refusal.Stale) × (e.0 ≢ Refusal.Foreign)) }
-        ensures err { IfErr result (λ e. (self.new.heap ≡ self.old.heap) × (e.1 ≡ tail) × (e.2 ≡ right)) }
-        ensures others { (other : Name) (units : ℕ) → other ≢ name → Holds self.old.heap other units → Holds self.new.heap other units }
-        ensures home { SameHome self.old self.new }
-        ensures compared { self.new.compared ≡ self.old.compared }
-        ensures touches { self.new.touches ≤ self.old.touches + 64 }
-        ensures touches_rise { self.old.touches ≤ self.new.touches }
+        ensures back { IfErr result (λ e. (e.1 ≡ tail) × (e.2 ≡ right)) }
+        ensures takes { Takes 64 self.old self.new }
     {
         let right = replace_with(&mut self.book, right, Book::beside);
         let units = units_of(len as usize, UNIT) as u32;
@@ -580,6 +492,7 @@ impl<const SLI: u32, const UNIT: usize> Arena<SLI, UNIT> {
     }
 
     /// [`Arena::trim`] of a block that has lost its name: its address tells the place.
+    #[tactic(auto, using(crate::proofs::Effects::resizes_later))]
     pub(crate) fn trim_at(
         &mut self,
         ptr: *mut u8,
@@ -588,16 +501,12 @@ impl<const SLI: u32, const UNIT: usize> Arena<SLI, UNIT> {
         len: u32,
         guesses: (u32, u32),
     ) -> Result<Right, (Refusal, Piece, Right)>
-        requires place { IsPiece self.old.region ptr (count_of ptr) (piece_size UNIT len + tail.size) }
+        requires right { IsRightAt UNIT self.old ptr right (piece_size UNIT len + tail.size) }
         requires tail { (tail.region ≡ self.old.region) × (tail.at ≡ count_of ptr + piece_size UNIT len) }
-        requires book { right.book ≡ self.old.book }
-        requires loan { (count_of ptr ≡ self.old.region.start + UNIT * (name_of right.loan).at) × (piece_size UNIT len + tail.size ≡ UNIT * units_of right.loan) }
+        ensures resizes { Resizes UNIT len self.old self.new (name_of right.loan) (units_of right.loan) (answer_of (λ e. e.0) result) }
         ensures right { IfOk result (λ r. (r.book ≡ self.old.book) × (r.loan ≡ loan_of (name_of right.loan) (units_for UNIT len))) }
-        ensures named { IfErr result (λ e. (e.0 ≢ Refusal.Stale) × (e.0 ≢ Refusal.Foreign)) }
-        ensures err { IfErr result (λ e. (e.1 ≡ tail) × (e.2 ≡ right)) }
-        ensures home { SameHome self.old self.new }
-        ensures compared { self.new.compared ≤ self.old.compared + 27 }
-        ensures touches { self.new.touches ≤ self.old.touches + 68 }
+        ensures back { IfErr result (λ e. (e.1 ≡ tail) × (e.2 ≡ right)) }
+        ensures seeks { Seeks 68 (name_of right.loan).at guesses self.old self.new }
     {
         let (name, right) = self.found(ptr, right, guesses);
         self.trim(name, right, tail, len)
@@ -629,10 +538,7 @@ impl<const SLI: u32, const UNIT: usize> Arena<SLI, UNIT> {
     /// ```
     pub fn report(&mut self) -> Report
         ensures report { result ≡ report_of SLI self.old.heap }
-        ensures same { SameArena self.old self.new }
-        ensures touches { self.new.touches ≤ self.old.touches + 2 * length self.old.heap.blocks }
-        ensures touches_rise { self.old.touches ≤ self.new.touches }
-        ensures compared { self.new.compared ≡ self.old.compared }
+        ensures looks { Looks (2 * length self.old.heap.blocks) self.old self.new }
     {
         self.heap.report()
     }
@@ -644,10 +550,7 @@ impl<const SLI: u32, const UNIT: usize> Arena<SLI, UNIT> {
     /// ```
     pub fn free_units(&mut self) -> u32
         ensures free { result ≡ (report_of SLI self.old.heap).free_words }
-        ensures same { SameArena self.old self.new }
-        ensures touches { self.new.touches ≤ self.old.touches + 2 * length self.old.heap.blocks }
-        ensures touches_rise { self.old.touches ≤ self.new.touches }
-        ensures compared { self.new.compared ≡ self.old.compared }
+        ensures looks { Looks (2 * length self.old.heap.blocks) self.old self.new }
     {
         self.report().free_words
     }
@@ -661,11 +564,8 @@ impl<const SLI: u32, const UNIT: usize> Arena<SLI, UNIT> {
     /// ```
     pub fn block_at(&mut self, at: u32) -> Option<PlacedBlock>
         ensures block { result ≡ placed_at self.old.heap.blocks at }
-        ensures same { SameArena self.old self.new }
-        ensures touches { self.new.touches ≤ self.old.touches + 4 }
-        ensures touches_rise { self.old.touches ≤ self.new.touches }
+        ensures looks { Looks 4 self.old self.new }
         ensures wild { FollowsNoPlace self.old.heap at self.old.touches self.new.touches }
-        ensures compared { self.new.compared ≡ self.old.compared }
     {
         self.heap.block_at(at)
     }
@@ -674,12 +574,9 @@ impl<const SLI: u32, const UNIT: usize> Arena<SLI, UNIT> {
     fn held_block(&mut self, at: u32) -> Option<(u64, u32)>
         ensures held { held_at self.old.heap.blocks at ≡ option_map (λ p. p.1) result }
         ensures serial { serial_at self.old.heap.blocks at ≡ option_map (λ p. p.0) result }
-        ensures same { SameArena self.old self.new }
+        ensures looks { Looks 4 self.old self.new }
         ensures lawful { IsLawful self.old.heap }
         ensures unit { IsUnit UNIT }
-        ensures compared { self.new.compared ≡ self.old.compared }
-        ensures touches { self.new.touches ≤ self.old.touches + 4 }
-        ensures touches_rise { self.old.touches ≤ self.new.touches }
     {
         match self.heap.block_at(at) {
             Some(
@@ -698,12 +595,11 @@ impl<const SLI: u32, const UNIT: usize> Arena<SLI, UNIT> {
     fn live_at(&mut self, ptr: *mut u8, guesses: (u32, u32)) -> Option<(Name, u32)>
         requires pointer { InBlock ptr × (block_of ptr ≡ self.old.region.block) × (count_of ptr < 2 ^ 63) }
         ensures live { IfSome result (λ b. (count_of ptr ≡ self.old.region.start + UNIT * b.0.at) × (held_at self.old.heap.blocks b.0.at ≡ Some b.1)) }
-        ensures held { (name : Name) (units : ℕ) → count_of ptr ≡ self.old.region.start + UNIT * name.at → Holds self.old.heap name units → result ≡ Some (name, units) }
+        ensures held { (name : Name) (units : ℕ) → count_of ptr ≡ self.old.region.start + UNIT * name.at → Holds self.old.heap name units → (result ≡ Some (name, units)) × IsFoundByGuess name.at guesses self.old.compared self.new.compared }
         ensures same { SameArena self.old self.new }
         ensures lawful { IfSome result (λ _. IsLawful self.old.heap) }
         ensures unit { IsUnit UNIT }
         ensures compared { self.new.compared ≤ self.old.compared + 27 }
-        ensures guessed { (name : Name) (units : ℕ) → count_of ptr ≡ self.old.region.start + UNIT * name.at → Holds self.old.heap name units → IsFoundByGuess name.at guesses self.old.compared self.new.compared }
         ensures touches { self.new.touches ≤ self.old.touches + 4 }
         ensures touches_rise { self.old.touches ≤ self.new.touches }
     {

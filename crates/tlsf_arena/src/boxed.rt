@@ -1,9 +1,10 @@
 // An arena behind a pointer: what gives it out and takes it back moves the pointer alone.
-ghost use Rattle.std.specs.Prelude.{◌≡◌, ◌+◌, ◌*◌, ◌≤◌};
+ghost use Rattle.std.specs.Prelude.{◌≡◌, ◌+◌, ◌≤◌};
 ghost use Rattle.std.specs.Bool.{Decides};
 ghost use Rattle.tlsf_heap.specs.Calls.{last_tick, released};
 ghost use Rattle.tlsf_arena.specs.Arenas.{SameHome};
-ghost use Rattle.tlsf_arena.specs.Loans.{name_of, units_of};
+ghost use Rattle.tlsf_arena.specs.Effects.{IsLent};
+ghost use Rattle.tlsf_arena.specs.Loans.{name_of};
 
 use crate::arena::Arena;
 use crate::piece::Piece;
@@ -29,10 +30,7 @@ impl<const SLI: u32, const UNIT: usize> BoxedArena<SLI, UNIT> {
     // Takes a block back by its address, and answers whether it did: always but at the last tick, when the block is lost.
     #[tactic(auto, using(crate::proofs::Worn::worn_is_last, crate::proofs::Worn::done_is_fresh))]
     pub(crate) fn give(&mut self, piece: Piece, right: Right, guesses: (u32, u32)) -> bool
-        requires region { piece.region ≡ self.old.region }
-        requires book { right.book ≡ self.old.book }
-        requires loan { piece.size ≡ UNIT * units_of right.loan }
-        requires place { piece.at ≡ piece.region.start + UNIT * (name_of right.loan).at }
+        requires lent { IsLent UNIT self.old (name_of right.loan) piece right }
         ensures given { Decides result (¬ (self.old.heap.tick ≡ last_tick)) }
         ensures heap { self.new.heap ≡ (released self.old.heap (name_of right.loan)).heap }
         ensures home { SameHome self.old self.new }

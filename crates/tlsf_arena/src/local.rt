@@ -1,8 +1,7 @@
 ghost use Rattle.std.specs.Prelude.{◌≡◌, ◌+◌, ◌*◌, ◌^◌, ◌<◌, ◌≤◌, IfOk, IfSome, IsErrOf, ◌↔◌, MatchResult};
 ghost use Rattle.std.specs.Mem.{type_size};
-ghost use Rattle.tlsf_class.specs.Classes.{IsLevel};
 ghost use Rattle.tlsf_heap.specs.Lawful.{IsRegion};
-ghost use Rattle.tlsf_arena.specs.Units.{IsUnit, piece_size, units_for};
+ghost use Rattle.tlsf_arena.specs.Units.{IsArenaOf, IsUnit, piece_size, units_for};
 ghost use Rattle.tlsf_arena.specs.Loans.{name_of, units_of as units_in};
 ghost use Rattle.tlsf_arena.specs.Ownership.{IsLoanAt, whole_token};
 
@@ -48,8 +47,7 @@ impl<const SLI: u32, const UNIT: usize> LocalArena<SLI, UNIT> {
     /// let squares: Vec<u64, &LocalArena<4, 16>> = Vec::new(&arena);
     /// ```
     pub fn open(alloc: Global, id: u32, units: u32) -> Result<LocalArena<SLI, UNIT>, OpenFault>
-        requires level { IsLevel SLI }
-        requires unit { IsUnit UNIT }
+        requires kind { IsArenaOf SLI UNIT }
         ensures region { IfOk result (λ a. (memory_of a).end ≡ (memory_of a).start + UNIT * units) }
         ensures bad_size { IsErrOf result OpenFault.BadSize ↔ ¬ (IsRegion SLI units) }
         ensures not_worn { ¬ (IsErrOf result OpenFault.Worn) }

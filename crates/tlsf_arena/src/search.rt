@@ -1,8 +1,8 @@
 // At which unit of an arena's memory an address lies.
 ghost use Rattle.std.specs.Prelude.{◌≡◌, ◌≢◌, ℕ, ◌+◌, ◌-◌, ◌*◌, ◌^◌, ◌<◌, ◌≤◌, MatchOption};
 ghost use Rattle.std.specs.Bool.{Decides};
-ghost use denote.RawPtr.{block_of, count_of, InBlock};
-ghost use Rattle.tlsf_arena.specs.Units.{IsUnit};
+ghost use denote.RawPtr.{count_of};
+ghost use Rattle.tlsf_arena.specs.Units.{AreUnits};
 
 use crate::space::{begins_at, lies_before};
 use crate::units::grains_before;
@@ -19,9 +19,8 @@ pub(crate) fn unit_at(
     guesses: (u32, u32),
     compared: &mut Touches,
 ) -> Option<u32>
-    requires pointers { InBlock base × InBlock ptr × (block_of ptr ≡ block_of base) × (count_of base + unit * units < 2 ^ 63) × (count_of ptr < 2 ^ 63) }
+    requires units { AreUnits ptr base unit units }
     requires some { 0 < units }
-    requires unit { IsUnit unit }
     ensures place { MatchOption result ((at : ℕ) → at < units → count_of ptr ≢ count_of base + unit * at) (λ at. (at < units) × (count_of ptr ≡ count_of base + unit * at)) }
     ensures counted { compared.old.count ≤ compared.new.count }
     ensures steps { 2 ^ (compared.new.count - (compared.old.count + 3)) < 2 * units }
@@ -50,8 +49,7 @@ fn is_unit_at(
     at: u32,
     compared: &mut Touches,
 ) -> bool
-    requires pointers { InBlock base × InBlock ptr × (block_of ptr ≡ block_of base) × (count_of base + unit * units < 2 ^ 63) × (count_of ptr < 2 ^ 63) }
-    requires unit { IsUnit unit }
+    requires units { AreUnits ptr base unit units }
     ensures place { Decides result ((at < units) × (count_of ptr ≡ count_of base + unit * at)) }
     ensures counted { compared.old.count ≤ compared.new.count }
     ensures steps { compared.new.count ≤ compared.old.count + 1 }
@@ -64,9 +62,8 @@ fn is_unit_at(
 
 /// The one unit that can begin at an address: each comparison halves the units in question.
 fn sought(ptr: *mut u8, base: *mut u8, units: u32, unit: usize, compared: &mut Touches) -> u32
-    requires pointers { InBlock base × InBlock ptr × (block_of ptr ≡ block_of base) × (count_of base + unit * units < 2 ^ 63) × (count_of ptr < 2 ^ 63) }
+    requires units { AreUnits ptr base unit units }
     requires some { 0 < units }
-    requires unit { IsUnit unit }
     ensures below { result < units }
     ensures place { (at : ℕ) → at < units → count_of ptr ≡ count_of base + unit * at → at ≡ result }
     ensures counted { compared.old.count ≤ compared.new.count }

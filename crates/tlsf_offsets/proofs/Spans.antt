@@ -11,13 +11,12 @@ use Rattle.tlsf_heap.specs.Calls.{Outcome, allocated_at, allocated_words, carved
 use Rattle.tlsf_heap.specs.GoodFit.{Site, block_at, place_of}
 use Rattle.tlsf_heap.specs.Lawful.{HasRoom, IsLawful}
 use Rattle.tlsf_heap.specs.Laws.{IsLive}
-use Rattle.tlsf_heap.specs.Placed.{placed, placed_at}
+use Rattle.tlsf_heap.specs.Shown.{Shown}
 use Rattle.tlsf_heap.specs.Steps.{Step, Give, Take, Fit, stepped, IsOfOthers}
 use Rattle.tlsf_heap.specs.Touched.{allocate_touches, resize_touches}
 use Rattle.tlsf_heap.specs.declared.name.Name.{Name}
 use Rattle.tlsf_heap.specs.declared.refusal.Refusal.{Refusal}
 use Rattle.tlsf_heap.specs.declared.refusal.Refusal.TheVariants.{NoFit, NoRoom, Worn, Foreign}
-use Rattle.tlsf_heap.specs.declared.placed_block.PlacedBlock.{PlacedBlock}
 use Rattle.tlsf_heap.proofs.lemmas.calls.Allocate.{fits_size}
 use Rattle.tlsf_heap.proofs.lemmas.lists.Chosen.{none_above}
 use Rattle.tlsf_heap.proofs.lemmas.blocks.Replace.{carved_small, carved_large}
@@ -25,16 +24,15 @@ use Rattle.tlsf_heap.proofs.lemmas.blocks.Find.{and_left, and_right}
 use Rattle.tlsf_heap.proofs.lemmas.laws.Gone.{gone_dead, gone_taken}
 use Rattle.tlsf_heap.proofs.lemmas.laws.Lasting.{HasFrom, in_left, in_right, of_index, to_index}
 use Rattle.tlsf_heap.proofs.lemmas.blocks.Lawful.{words_in-append}
-use Rattle.tlsf_heap.proofs.lemmas.laws.Live.{lives, new_words, shown, one_serial, same_name, lasts_named}
+use Rattle.tlsf_heap.proofs.lemmas.laws.Live.{new_words, shown, one_serial, same_name, lasts_named}
 use Rattle.tlsf_heap.proofs.lemmas.blocks.Order.{ends_before, inside}
 use Rattle.tlsf_heap.proofs.lemmas.calls.Alter.{named_of}
 use Rattle.tlsf_heap.proofs.lemmas.calls.Outcomes.{by_allocated_words, by_released, by_resized_found, by_resized_words, gives_words, ids_step, named_site, resizes}
-use Rattle.tlsf_heap.proofs.lemmas.blocks.ByPlace.{placed_found}
 use Rattle.tlsf_heap.proofs.lemmas.words.Recut.{cut_small, cut_large}
 use Rattle.tlsf_heap.proofs.lemmas.lists.Refit.{refitted_grown, refitted_cut, refitted_kept}
 use Rattle.tlsf_heap.proofs.lemmas.words.Image.{least}
 use Rattle.tlsf_heap.proofs.lemmas.blocks.Sites.{choice_none}
-use Rattle.tlsf_offsets.specs.Offsets.{Offsets, IsOffsets, IsHeld, SpansAreApart, KeepsOthers, span_units, seen_of}
+use Rattle.tlsf_offsets.specs.Offsets.{Offsets, IsOffsets, IsHeld, SpansAreApart, KeepsOthers, span_units, seen_of, IsServed, Looks}
 use Rattle.tlsf_offsets.specs.declared.span.Span.{Span}
 use Rattle.tlsf_heap.specs.Effects.{Allocates, Resizes}
 use Rattle.tlsf_heap.specs.Named.{IsNamed}
@@ -388,6 +386,21 @@ left_made h name n = by_resized_words (Left h name n) h name n 0 (λ why e. absu
 
 -- ---- a call of allocate and one of resize, from the arena o, which the code shows as i, to the arena p
 
+-- an arena of this unit with this heap
+abbrev pub with_heap : ℕ → Shown → Offsets
+with_heap unit h = record { heap = h.heap; unit = unit; extents = h.extents; touches = h.touches; touched = h.touched }
+
+-- the span of the block that was made, also after a look
+served : (sli : ℕ) (o p left : Offsets) (len : ℕ) (span : Span) → IsOffsets sli p → p.unit ≡ o.unit → IsHeld p span → MadeClose span.name (span_units o.unit len) p.heap → Looks 1 p left → IsServed o left len span
+served sli o p left len span after unit h made looks = record {
+  held = subst (λ (x : HeapState × ℕ). IsHeld (record left { heap = x.0; unit = x.1 }) span) (λ i. (sym looks.heap i, sym looks.unit i)) (held_in left h);
+  enough = enough sli p span len after h (subst (λ (u : ℕ). Made span.name (span_units u len) p.heap) (sym unit) made.0);
+  close = subst (λ (u : ℕ). span.size < u * (span_units o.unit len + 4)) unit (close sli p span (span_units o.unit len) after h made.0 made.1);
+}
+  where
+    held_in : (x : Offsets) → IsHeld p span → IsHeld (record x { heap = p.heap; unit = p.unit }) span
+    held_in x h = record { own = h.own; index = h.index; stands = h.stands; live = h.live; offset = h.offset; size = h.size }
+
 pub record Asks (sli : ℕ) (o p : Offsets) (len : ℕ) (answer : Result Name Refusal) : Type 0 where
   pub allocates : Allocates allocate_touches sli (span_units o.unit len) 0 (seen_of o) (seen_of p) answer
   pub unit_is : p.unit ≡ o.unit
@@ -413,11 +426,8 @@ module _ (sli : ℕ) (o p : Offsets) (len : ℕ) (name : Name) (a : Asks sli o p
     spanned : (made : Made span.name (span_units o.unit len) p.heap) × (made.size < span_units o.unit len + 4)
     spanned = subst (λ (m : Name). (made : Made m (span_units o.unit len) p.heap) × (made.size < span_units o.unit len + 4)) (sym named) asks_made
 
-    pub asks_enough : len ≤ span.size
-    asks_enough = enough sli p span len a.after h (subst (λ (u : ℕ). Made span.name (span_units u len) p.heap) (sym a.unit_is) spanned.0)
-
-    pub asks_close : span.size < o.unit * (span_units o.unit len + 4)
-    asks_close = subst (λ (u : ℕ). span.size < u * (span_units o.unit len + 4)) a.unit_is (close sli p span (span_units o.unit len) a.after h spanned.0 spanned.1)
+    pub asks_served : (left : Offsets) → Looks 1 p left → IsServed o left len span
+    asks_served left looks = served sli o p left len span a.after a.unit_is h spanned looks
 
   pub asks_new : (other : Span) → IsHeld o other → other.name ≢ name
   asks_new other h same = new_words sli o.heap (span_units o.unit len) 0 name a.before.lawful (sym a.allocates.answer_is) (subst (IsLive o.heap) same (live o other h))
@@ -446,11 +456,8 @@ module _ (sli : ℕ) (o p : Offsets) (name : Name) (len : ℕ) (a : Alters sli o
     respanned : MadeClose span.name (span_units o.unit len) p.heap
     respanned = subst (λ (m : Name). MadeClose m (span_units o.unit len) p.heap) (sym named) alters_made
 
-    pub alters_enough : len ≤ span.size
-    alters_enough = enough sli p span len a.after h (subst (λ (u : ℕ). Made span.name (span_units u len) p.heap) (sym a.unit_is) respanned.0)
-
-    pub alters_close : span.size < o.unit * (span_units o.unit len + 4)
-    alters_close = subst (λ (u : ℕ). span.size < u * (span_units o.unit len + 4)) a.unit_is (close sli p span (span_units o.unit len) a.after h respanned.0 respanned.1)
+    pub alters_served : (left : Offsets) → Looks 1 p left → IsServed o left len span
+    alters_served left looks = served sli o p left len span a.after a.unit_is h respanned looks
 
 -- the name of a resize that was done names a block
 pub resized_named : (h : HeapState) (name : Name) (n : ℕ) → (resized_words h name n 0).answer ≡ Ok tt → IsNamed h name

@@ -5,6 +5,7 @@ use Rattle.tlsf_heap.specs.Blocks.{HeapState, StandsAt, size_of}
 use Rattle.tlsf_heap.specs.GoodFit.{block_at}
 use Rattle.tlsf_heap.specs.Lawful.{IsLawful}
 use Rattle.tlsf_heap.specs.Calls.{has_serial}
+use Rattle.tlsf_heap.specs.Footprint.{LeavesLive}
 use Rattle.tlsf_heap.specs.Memory.{Extents}
 use Rattle.tlsf_heap.specs.declared.name.Name.{Name}
 use Rattle.tlsf_heap.specs.Reports.{report_of}
@@ -60,3 +61,27 @@ usage_of sli o = let report = report_of sli o.heap in record {
   free = o.unit * report.free_words;
   largest = o.unit * report.largest;
 }
+
+-- ---- what a call gives and leaves
+
+-- the span is held, has the bytes asked for, and fewer than four units more
+pub record IsServed (old new : Offsets) (len : ℕ) (span : Span) : Type 0 where
+  pub held : IsHeld new span
+  pub enough : len ≤ span.size
+  pub close : span.size < old.unit * (span_units old.unit len + 4)
+
+-- the arena is lawful as it was. It has the same unit, and no memory is taken or given back
+pub record GoesOn (sli : ℕ) (old new : Offsets) : Type 0 where
+  pub unit : new.unit ≡ old.unit
+  pub stays : new.extents ≡ old.extents
+  pub was_lawful : IsOffsets sli old
+  pub lawful : IsOffsets sli new
+
+-- a look, of this many touches at most, leaves all but the counts of them
+pub record Looks (most : ℕ) (old new : Offsets) : Type 0 where
+  pub heap : new.heap ≡ old.heap
+  pub unit : new.unit ≡ old.unit
+  pub stays : new.extents ≡ old.extents
+  pub touches : new.touches ≤ old.touches + most
+  pub touches_rise : old.touches ≤ new.touches
+  pub leaves : LeavesLive old.heap.blocks old.touched new.touched

@@ -3,11 +3,10 @@ ghost use Rattle.tlsf_class.specs.Classes.{IsLevel};
 ghost use Rattle.tlsf_heap.specs.Calls.{opened, allocated_words, resized_words};
 ghost use Rattle.tlsf_heap.specs.Lawful.{IsRegion};
 ghost use Rattle.tlsf_heap.specs.Touched.{allocate_touches, release_touches, resize_touches};
-ghost use Rattle.tlsf_offsets.specs.Offsets.{IsOffsets, IsHeld, KeepsOthers, span_units, usage_of, seen_of};
+ghost use Rattle.tlsf_offsets.specs.Offsets.{GoesOn, IsOffsets, IsHeld, IsServed, KeepsOthers, Looks, span_units, usage_of, seen_of};
 ghost use Rattle.tlsf_heap.specs.Laws.{IsLive};
 ghost use Rattle.tlsf_offsets.specs.declared.span.Span.{Span};
 ghost use Rattle.tlsf_heap.specs.Effects.{Allocates, Releases, Resizes};
-ghost use Rattle.tlsf_heap.specs.Footprint.{LeavesLive};
 
 use crate::span::Span;
 use crate::usage::Usage;
@@ -91,16 +90,12 @@ impl<const SLI: u32> OffsetArena<SLI> {
         // A refusal changes nothing.
         ensures err { OnErr result (self.new.heap ≡ self.old.heap) }
 
-        // The span is held, has the bytes asked for, and fewer than four units more; those that were held still are.
-        ensures held { IfOk result (λ span. IsHeld self.new span) }
-        ensures enough { IfOk result (λ span. len ≤ span.size) }
-        ensures close { IfOk result (λ span. span.size < self.old.unit * (span_units self.old.unit len + 4)) }
+        ensures span { IfOk result (IsServed self.old self.new len) }
+
+        // Spans that were held still are.
         ensures others { (other : Span) → IsHeld self.old other → IsHeld self.new other }
         ensures new { IfOk result (λ span. (other : Span) → IsHeld self.old other → other.name ≢ span.name) }
-        ensures unit { self.new.unit ≡ self.old.unit }
-        ensures stays { self.new.extents ≡ self.old.extents }
-        ensures was_lawful { IsOffsets SLI self.old }
-        ensures lawful { IsOffsets SLI self.new }
+        ensures goes_on { GoesOn SLI self.old self.new }
     {
         match self.heap.allocate_words(units_of(self.unit, len), 0) {
             Ok(name) => Ok(self.span_of(name)),
@@ -124,10 +119,7 @@ impl<const SLI: u32> OffsetArena<SLI> {
         ensures err { OnErr result (self.new.heap ≡ self.old.heap) }
         ensures others { KeepsOthers self.old self.new name }
         ensures gone { OnOk result ((span : Span) → IsHeld self.new span → span.name ≢ name) }
-        ensures unit { self.new.unit ≡ self.old.unit }
-        ensures stays { self.new.extents ≡ self.old.extents }
-        ensures was_lawful { IsOffsets SLI self.old }
-        ensures lawful { IsOffsets SLI self.new }
+        ensures goes_on { GoesOn SLI self.old self.new }
     {
         self.heap.release(name)
     }
@@ -148,14 +140,9 @@ impl<const SLI: u32> OffsetArena<SLI> {
 
         // A refusal changes nothing. Spans of other names are held as before.
         ensures err { OnErr result (self.new.heap ≡ self.old.heap) }
-        ensures held { IfOk result (λ span. IsHeld self.new span) }
-        ensures enough { IfOk result (λ span. len ≤ span.size) }
-        ensures close { IfOk result (λ span. span.size < self.old.unit * (span_units self.old.unit len + 4)) }
+        ensures span { IfOk result (IsServed self.old self.new len) }
         ensures others { KeepsOthers self.old self.new name }
-        ensures unit { self.new.unit ≡ self.old.unit }
-        ensures stays { self.new.extents ≡ self.old.extents }
-        ensures was_lawful { IsOffsets SLI self.old }
-        ensures lawful { IsOffsets SLI self.new }
+        ensures goes_on { GoesOn SLI self.old self.new }
     {
         match self.heap.resize_words(name, units_of(self.unit, len), 0) {
             Ok(()) => Ok(self.span_of(name)),
@@ -171,11 +158,7 @@ impl<const SLI: u32> OffsetArena<SLI> {
     /// ```
     pub fn usage(&mut self) -> Usage
         ensures usage { result ≡ usage_of SLI self.old }
-        ensures same { (self.new.heap ≡ self.old.heap) × (self.new.unit ≡ self.old.unit) }
-        ensures stays { self.new.extents ≡ self.old.extents }
-        ensures touches { self.new.touches ≤ self.old.touches + 2 * length self.old.heap.blocks }
-        ensures touches_rise { self.old.touches ≤ self.new.touches }
-        ensures leaves { LeavesLive self.old.heap.blocks self.old.touched self.new.touched }
+        ensures looks { Looks (2 * length self.old.heap.blocks) self.old self.new }
     {
         let report = self.heap.report();
         Usage {
@@ -198,11 +181,7 @@ impl<const SLI: u32> OffsetArena<SLI> {
         requires { IsLive self.old.heap name }
         ensures held { IsHeld self.old result }
         ensures name { result.name ≡ name }
-        ensures same { (self.new.heap ≡ self.old.heap) × (self.new.unit ≡ self.old.unit) }
-        ensures stays { self.new.extents ≡ self.old.extents }
-        ensures touches { self.new.touches ≤ self.old.touches + 1 }
-        ensures touches_rise { self.old.touches ≤ self.new.touches }
-        ensures leaves { LeavesLive self.old.heap.blocks self.old.touched self.new.touched }
+        ensures looks { Looks 1 self.old self.new }
     {
         let units = self.heap.words_of(name);
         Span {

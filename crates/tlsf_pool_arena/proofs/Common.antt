@@ -8,8 +8,8 @@ pub use Rattle.tlsf_arena.specs.declared.block.Block.{Block}
 pub use Rattle.tlsf_heap.specs.Blocks.{HeapState, size_of, want, Free, Live}
 pub use Rattle.tlsf_heap.specs.Calls.{released, last_tick, Outcome, Release, Released, allocated_words, resized_words, Allocate, Allocated, Resize, carved, has_serial, is_worn, named, refused, resized_at, room_of}
 pub use Rattle.tlsf_pool.specs.laws.Room.{live_count, sure}
-pub use Rattle.tlsf_pool_arena.specs.PoolArenas.{PoolArenaState, fixed_bytes, IsPoolArena, SamePlan, fixed_size}
-pub use Rattle.tlsf_pool_arena.specs.Remotes.{RemoteState, LookedInTime, AreAway, AreIdle, idle_slots, IsFrom, NoneLost, TakesHome, home_from, home_released, looks_from, still_away}
+pub use Rattle.tlsf_pool_arena.specs.PoolArenas.{PoolArenaState, fixed_bytes, IsPoolArena, fixed_size}
+pub use Rattle.tlsf_pool_arena.specs.Remotes.{GoesOn, RemoteState, LookedInTime, AreAway, AreIdle, idle_slots, IsFrom, NoneLost, TakesHome, home_from, home_released, looks_from, still_away}
 pub use Rattle.tlsf_pool_arena.specs.declared.parcel.Parcel.{Parcel}
 pub use Rattle.tlsf_pool_arena.specs.returns.Ends.{away_by}
 pub use Rattle.tlsf_pool_arena.specs.returns.Steps.{Seated, out_by, is_away, looks_by, slot_of, ticket_of, value_of, announced, cleared, looked, put_back, reached, sent_out}

@@ -1,5 +1,5 @@
 -- The slots after a look at each in turn.
-use Rattle.tlsf_pool_arena.proofs.Common.{◌≡◌, ℕ, suc, zero, ◌+◌, ◌*◌, ◌<◌, ◌≤◌, Bool, true, false, List, [], ◌∷◌, ◌++◌, length, length-append, length-set, set, slice_get, subst, take, Option, Some, None, refl, sym, ap, ◌∙◌, inl, inr, append_assoc, append-nil, arith, cases_eq, false≢true, HeapState, last_tick, released, SamePlan, RemoteState, LookedInTime, TakesHome, home_from, home_released, looks_from, still_away, Parcel}
+use Rattle.tlsf_pool_arena.proofs.Common.{◌≡◌, ℕ, suc, zero, ◌+◌, ◌*◌, ◌<◌, ◌≤◌, Bool, true, false, List, [], ◌∷◌, ◌++◌, length, length-append, length-set, set, slice_get, subst, take, Option, Some, None, refl, sym, ap, ◌∙◌, inl, inr, append_assoc, append-nil, arith, cases_eq, false≢true, HeapState, last_tick, released, GoesOn, RemoteState, LookedInTime, TakesHome, home_from, home_released, looks_from, still_away, Parcel}
 
 -- ---- what one look more comes to
 
@@ -89,14 +89,9 @@ module _ {u : ℕ} where
 
 -- the first n slots were looked at, unless the last tick came
 pub record Drained {u : ℕ} (first now : RemoteState u) (n : ℕ) : Type 0 where
-  pub own : now.slots ≡ first.slots
+  pub on : GoesOn (60 * n) n first now
   pub held : now.arena.held ≤ first.arena.held
-  pub plan : SamePlan first.arena now.arena
   pub long : length now.away ≡ length first.away
-  pub touches : now.arena.touches ≤ first.arena.touches + 60 * n
-  pub compared : now.arena.compared ≡ first.arena.compared
-  pub steps : now.steps ≤ first.steps + n
-  pub stays : now.extent ≡ first.extent
   pub seen : List Bool
   pub looks : now.looks ≡ first.looks ++ looks_from 0 seen
   pub away : now.away ≡ still_away first.away seen
@@ -108,14 +103,9 @@ pub record Drained {u : ℕ} (first now : RemoteState u) (n : ℕ) : Type 0 wher
 -- before the first look
 pub none_drained : {u : ℕ} (first : RemoteState u) → Drained first first 0
 none_drained first = record {
-  own = refl;
+  on = record { own = refl; plan = record { region = refl; book = refl; most = refl; longest = refl; stays = refl; leased = refl }; stays = refl; touches = omega arith; compared = refl; steps = omega arith };
   held = omega arith;
-  plan = record { region = refl; book = refl; most = refl; longest = refl; stays = refl; leased = refl };
   long = refl;
-  touches = omega arith;
-  compared = refl;
-  steps = omega arith;
-  stays = refl;
   seen = [];
   looks = sym (append-nil first.looks);
   away = sym (none_taken first.away);
@@ -129,9 +119,18 @@ none_drained first = record {
 pub all_drained : {u : ℕ} (first now : RemoteState u) (n : ℕ) → Drained first now n → n ≡ length first.away → (seen : List Bool) × TakesHome first now seen
 all_drained first now n d long = (d.seen, record { looks = d.looks; away = d.away; heap = d.heap; idle = d.idle; whole = λ fresh. d.whole fresh ∙ long; in_time = d.in_time })
 
-module _ {u : ℕ} (first old new : RemoteState u) (at : ℕ) (was : Drained first old at) (own : new.slots ≡ old.slots) (plan : SamePlan old.arena new.arena) (touches : new.arena.touches ≤ old.arena.touches + 60) (compared : new.arena.compared ≡ old.arena.compared) (steps : new.steps ≤ old.steps + 1) (stays : new.extent ≡ old.extent) where
-  plans : SamePlan first.arena new.arena
-  plans = record { region = plan.region ∙ was.plan.region; book = plan.book ∙ was.plan.book; most = plan.most ∙ was.plan.most; longest = plan.longest ∙ was.plan.longest; stays = plan.stays ∙ was.plan.stays; leased = plan.leased ∙ was.plan.leased }
+module _ {u : ℕ} (first old new : RemoteState u) (at : ℕ) (was : Drained first old at) (next : GoesOn 60 1 old new) where
+  goes_on : GoesOn (60 * (at + 1)) (at + 1) first new
+  goes_on =
+      let plan = next.plan in
+      let before = was.on.plan in record {
+        own = next.own ∙ was.on.own;
+        plan = record { region = plan.region ∙ before.region; book = plan.book ∙ before.book; most = plan.most ∙ before.most; longest = plan.longest ∙ before.longest; stays = plan.stays ∙ before.stays; leased = plan.leased ∙ before.leased };
+        stays = next.stays ∙ was.on.stays;
+        touches = omega (arith, was.on.touches, next.touches);
+        compared = next.compared ∙ was.on.compared;
+        steps = omega (arith, was.on.steps, next.steps);
+      }
 
   from_first : length was.seen ≡ at → at ≡ 0 + length was.seen
   from_first long = omega (arith, long)
@@ -159,14 +158,9 @@ module _ {u : ℕ} (first old new : RemoteState u) (at : ℕ) (was : Drained fir
       let there : slice_get first.away (length was.seen) ≡ Some (Some h.0) =
       sym (away_next first.away was.seen) ∙ ap (λ (l : List (Option (Parcel u))). slice_get l (length was.seen)) (sym was.away) ∙ ap (λ (j : ℕ). slice_get old.away j) long ∙ h.1 in
       record {
-        own = own ∙ was.own;
+        on = goes_on;
         held = omega (arith, was.held, h.4);
-        plan = plans;
         long = ap (λ (l : List (Option (Parcel u))). length l) h.2 ∙ length-set old.away at None ∙ was.long;
-        touches = omega (arith, was.touches, touches);
-        compared = compared ∙ was.compared;
-        steps = omega (arith, was.steps, steps);
-        stays = stays ∙ was.stays;
         seen = was.seen ++ true ∷ [];
         looks = seen_on true long (looks fresh);
         away = h.2 ∙ (λ i. set (was.away i) (sym long i) None) ∙ sym (away_on first.away was.seen);
@@ -179,14 +173,9 @@ module _ {u : ℕ} (first old new : RemoteState u) (at : ℕ) (was : Drained fir
   one_drained false home none looks worn = elim (cases_eq old.arena.heap.tick last_tick) [
     | inl last ↦
         let h = none refl in record {
-          own = own ∙ was.own;
+          on = goes_on;
           held = omega (arith, was.held, h.2);
-          plan = plans;
           long = ap (λ (l : List (Option (Parcel u))). length l) h.0 ∙ was.long;
-          touches = omega (arith, was.touches, touches);
-          compared = compared ∙ was.compared;
-          steps = omega (arith, was.steps, steps);
-          stays = stays ∙ was.stays;
           seen = was.seen;
           looks = (worn last).1 ∙ was.looks;
           away = h.0 ∙ was.away;
@@ -198,14 +187,9 @@ module _ {u : ℕ} (first old new : RemoteState u) (at : ℕ) (was : Drained fir
     | inr fresh ↦
         let h = none refl in
         let long : length was.seen ≡ at = was.whole fresh in record {
-          own = own ∙ was.own;
+          on = goes_on;
           held = omega (arith, was.held, h.2);
-          plan = plans;
           long = ap (λ (l : List (Option (Parcel u))). length l) h.0 ∙ was.long;
-          touches = omega (arith, was.touches, touches);
-          compared = compared ∙ was.compared;
-          steps = omega (arith, was.steps, steps);
-          stays = stays ∙ was.stays;
           seen = was.seen ++ false ∷ [];
           looks = seen_on false long (looks fresh);
           away = h.0 ∙ was.away ∙ sym (away_off first.away was.seen);

@@ -1,5 +1,5 @@
 -- An arena of blocks of a fixed size: what its calls answer and leave.
-use Rattle.tlsf_pool_arena.proofs.Common.{◌↔◌, IfErr, IsSome, MatchResult, ◌≡◌, ◌≢◌, ℕ, ◌+◌, ◌-◌, ◌*◌, ◌<◌, ◌≤◌, Bool, true, false, cond, [], ◌∷◌, Option, Some, Result, Ok, Err, IsOk, refl, sym, ap, ◌∙◌, subst, arith, eq-eqb, false≢true, eqb-true, le-ltb, Live, Free, HeapState, size_of, Outcome, Allocate, Allocated, Release, Released, Resize, allocated_words, has_serial, is_worn, last_tick, named, refused, released, resized_at, resized_words, room_of, live_count, sure, Holds, requested, lacking, piece_size, units_for, IsPoolArena, PoolArenaState, fixed_bytes, fixed_size}
+use Rattle.tlsf_pool_arena.proofs.Common.{◌↔◌, IfErr, IsSome, ◌≡◌, ◌≢◌, ℕ, ◌+◌, ◌-◌, ◌*◌, ◌<◌, ◌≤◌, Bool, true, false, cond, [], ◌∷◌, Option, Some, Result, Ok, Err, IsOk, refl, sym, ap, ◌∙◌, subst, arith, eq-eqb, false≢true, eqb-true, le-ltb, Live, Free, HeapState, size_of, Outcome, Allocate, Allocated, Release, Released, Resize, allocated_words, has_serial, is_worn, last_tick, named, refused, released, resized_at, resized_words, room_of, live_count, sure, Holds, requested, lacking, piece_size, units_for, IsPoolArena, PoolArenaState, fixed_bytes, fixed_size}
 use base.Fml.{GName}
 use Rattle.std.proofs.Math.Nat.{mul-le-mul}
 use Rattle.linked_list_allocator.specs.Region.{Region}
@@ -22,6 +22,7 @@ use Rattle.tlsf_pool.proofs.lemmas.laws.FixedSize.{finds_fixed, fixed_kept, sure
 use Rattle.tlsf_pool.proofs.lemmas.laws.FreeRoom.{sure_enough}
 use Rattle.tlsf_pool.proofs.lemmas.laws.Held.{held_is}
 use Rattle.tlsf_arena.specs.Arenas.{refitted as refitted_to}
+use Rattle.tlsf_arena.specs.Effects.{answer_of}
 use Rattle.tlsf_pool_arena.proofs.UnitWords.{lacks_few, units_again, units_rise}
 
 -- where a block has the words that are wanted, a resize is refused at the last tick alone
@@ -149,15 +150,13 @@ module _ (sli u : ℕ) (p : PoolArenaState) (is : IsPoolArena sli u p) where
         at true worn = (((λ ok. absurd (false≢true (subst IsOk (told true worn) ok))), (λ fresh. absurd (fresh (eqb-true p.heap.tick last_tick worn)))), λ why is. let told = told true worn in cc)
         at false worn = (((λ ok last. false≢true (sym worn ∙ eq-eqb p.heap.tick last_tick last)), (λ fresh. subst IsOk (sym (told false worn)) refl)), λ why is. let told = told false worn in absurd cc)
 
-    pub resize_ok : {A B : Type 0} (result : Result A (Refusal × B)) (name : Name) (units : ℕ) → Holds p.heap name units
-        → MatchResult result (λ _. (refitted_to u p.heap name bytes).answer ≡ Ok tt) (λ e. (refitted_to u p.heap name bytes).answer ≡ Err e.0) → IsOk result ↔ ¬ (p.heap.tick ≡ last_tick)
-    resize_ok (Ok done) name units holds told = (resize_is name units (Ok tt) holds told).0
-    resize_ok (Err e) name units holds told = (resize_is name units (Err e.0) holds told).0
+    pub resize_ok : {A B : Type 0} (result : Result A (Refusal × B)) (name : Name) (units : ℕ) → Holds p.heap name units → answer_of (λ e. e.0) result ≡ (refitted_to u p.heap name bytes).answer → IsOk result ↔ ¬ (p.heap.tick ≡ last_tick)
+    resize_ok (Ok done) name units holds answer = (resize_is name units (Ok tt) holds (sym answer)).0
+    resize_ok (Err e) name units holds answer = (resize_is name units (Err e.0) holds (sym answer)).0
 
-    pub resize_worn : {A B : Type 0} (result : Result A (Refusal × B)) (name : Name) (units : ℕ) → Holds p.heap name units
-        → MatchResult result (λ _. (refitted_to u p.heap name bytes).answer ≡ Ok tt) (λ e. (refitted_to u p.heap name bytes).answer ≡ Err e.0) → IfErr result (λ e. e.0 ≡ Worn)
-    resize_worn (Ok done) name units holds told = tt
-    resize_worn (Err e) name units holds told = (resize_is name units (Err e.0) holds told).1 e.0 refl
+    pub resize_worn : {A B : Type 0} (result : Result A (Refusal × B)) (name : Name) (units : ℕ) → Holds p.heap name units → answer_of (λ e. e.0) result ≡ (refitted_to u p.heap name bytes).answer → IfErr result (λ e. e.0 ≡ Worn)
+    resize_worn (Ok done) name units holds answer = tt
+    resize_worn (Err e) name units holds answer = (resize_is name units (Err e.0) holds (sym answer)).1 e.0 refl
 
   -- after a release that was done
   pub taken : (name : Name) (left : HeapState) (region : Region) (book : GName) (extents : Extents) (leased : Bool) (touches compared : ℕ) → (released p.heap name).answer ≡ Ok tt → left ≡ (released p.heap name).heap

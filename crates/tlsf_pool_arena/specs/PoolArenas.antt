@@ -1,5 +1,5 @@
 -- An arena with bounds on the blocks which a program holds, on their number and on the bytes of each. All have the same units.
-use Rattle.std.specs.Prelude.{◌≡◌, ℕ, ◌*◌, ◌≤◌, Bool, ◌&&◌, max, Option, Some, None, if◌then◌else◌, nat_le, nat_lt}
+use Rattle.std.specs.Prelude.{◌≡◌, ℕ, ◌+◌, ◌*◌, ◌≤◌, Bool, ◌&&◌, max, Option, Some, None, if◌then◌else◌, nat_le, nat_lt}
 use base.Fml.{GName}
 use Rattle.linked_list_allocator.specs.Region.{Region}
 use Rattle.tlsf_class.specs.Classes.{IsLevel, most_words}
@@ -11,7 +11,7 @@ use Rattle.tlsf_heap.specs.declared.name.Name.{Name}
 use Rattle.tlsf_heap.specs.declared.refusal.Refusal.TheVariants.{NoRoom}
 use Rattle.tlsf_pool.specs.laws.FixedSize.{HasFixedSize}
 use Rattle.tlsf_pool.specs.laws.Room.{live_count, sure}
-use Rattle.tlsf_arena.specs.Arenas.{refitted, requested}
+use Rattle.tlsf_arena.specs.Arenas.{ArenaState, refitted, requested}
 use Rattle.tlsf_arena.specs.Units.{IsUnit, units_for}
 
 -- the view of the arena: its heap, the region of its memory, the book of its blocks, and how many are held. Also how many may be
@@ -81,3 +81,21 @@ pub record SamePoolArena (old new : PoolArenaState) : Type 0 where
   pub plan : SamePlan old new
   pub heap : new.heap ≡ old.heap
   pub held : new.held ≡ old.held
+
+-- what the arena within shows
+abbrev pub arena_of : PoolArenaState → ArenaState
+arena_of p = record { heap = p.heap; region = p.region; book = p.book; extents = p.extents; leased = p.leased; touches = p.touches; compared = p.compared }
+
+-- a call of this many touches of the heap at most, and no comparison of addresses. The bounds and the memory stay
+pub record KeepsPlan (most : ℕ) (old new : PoolArenaState) : Type 0 where
+  pub plan : SamePlan old new
+  pub touches : new.touches ≤ old.touches + most
+  pub touches_rise : old.touches ≤ new.touches
+  pub compared : new.compared ≡ old.compared
+
+-- a look of this many touches at most, and no comparison of addresses: the arena is the same
+pub record Looks (most : ℕ) (old new : PoolArenaState) : Type 0 where
+  pub same : SamePoolArena old new
+  pub touches : new.touches ≤ old.touches + most
+  pub touches_rise : old.touches ≤ new.touches
+  pub compared : new.compared ≡ old.compared

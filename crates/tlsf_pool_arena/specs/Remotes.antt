@@ -1,12 +1,13 @@
 -- An arena whose blocks are away by slots.
-use Rattle.std.specs.Prelude.{◌≡◌, ℕ, ◌+◌, ◌<◌, Bool, true, false, List, [], ◌∷◌, ◌++◌, length, count_by, Option, Some, None, is_none, slice_get, slice_set, take}
+use Rattle.std.specs.Prelude.{◌≡◌, ℕ, ◌+◌, ◌<◌, ◌≤◌, Bool, true, false, List, [], ◌∷◌, ◌++◌, length, count_by, Option, Some, None, is_none, slice_get, slice_set, take}
 use base.Fml.{GName}
 use Rattle.linked_list_allocator.specs.Region.{Region}
 use Rattle.atomic_table.specs.Seated.{TableId}
 use Rattle.tlsf_heap.specs.Blocks.{HeapState}
 use Rattle.tlsf_heap.specs.Memory.{Extent}
 use Rattle.tlsf_heap.specs.Calls.{last_tick, released}
-use Rattle.tlsf_pool_arena.specs.PoolArenas.{PoolArenaState}
+use Rattle.tlsf_arena.specs.Effects.{HasHome}
+use Rattle.tlsf_pool_arena.specs.PoolArenas.{PoolArenaState, SamePlan}
 use Rattle.tlsf_pool_arena.specs.declared.parcel.Parcel.{Parcel}
 
 -- numbers of slots, the memory of their list, and how often one was read or written
@@ -14,6 +15,11 @@ pub record CountedSlots : Type 0 where
   pub slots : List ℕ
   pub extent : Extent
   pub steps : ℕ
+
+-- one step more, and no memory is taken or given back
+pub record StepsOnce (old new : CountedSlots) : Type 0 where
+  pub stays : new.extent ≡ old.extent
+  pub steps : new.steps ≡ old.steps + 1
 
 -- the view of the arena: the pool's arena, the block that is away by each slot, and the looks that it had at slots. Each look
 -- tells whether the block was home then. Also the slots by which none is away; the next block goes out by the last of these. Also
@@ -29,7 +35,7 @@ pub record RemoteState (u : ℕ) : Type 0 where
 
 -- a block of this memory, whose right is of this book
 abbrev pub IsFrom : {u : ℕ} → Region → GName → Parcel u → Type 0
-IsFrom region book b = (b.block.piece.region ≡ region) × (b.block.right.book ≡ book)
+IsFrom region book b = HasHome region book b.block
 
 -- each block that is away is one of this memory and this book
 pub record AreAway (u : ℕ) (region : Region) (book : GName) (away : List (Option (Parcel u))) : Type 0 where
@@ -54,6 +60,16 @@ pub record AreIdle (u count n : ℕ) (idle : List ℕ) (away : List (Option (Par
   pub all : idle_slots away ≡ n
   pub free : (k at : ℕ) → k < n → slice_get idle k ≡ Some at → slice_get away at ≡ Some None
   pub apart : (j k at : ℕ) → j < n → k < n → slice_get idle j ≡ Some at → slice_get idle k ≡ Some at → j ≡ k
+
+-- a call of this many touches of the heap at most, and this many steps on the list of idle slots. It compares no address. The slots,
+-- the bounds and all memory stay
+pub record GoesOn {u : ℕ} (most few : ℕ) (old new : RemoteState u) : Type 0 where
+  pub own : new.slots ≡ old.slots
+  pub plan : SamePlan old.arena new.arena
+  pub stays : new.extent ≡ old.extent
+  pub touches : new.arena.touches ≤ old.arena.touches + most
+  pub compared : new.arena.compared ≡ old.arena.compared
+  pub steps : new.steps ≤ old.steps + few
 
 -- ---- a look at each slot in turn, and what each saw
 

@@ -1,16 +1,16 @@
 ghost use Rattle.std.specs.Prelude.{true, ◌≡◌, ◌≢◌, ◌↔◌, ℕ, ◌+◌, ◌*◌, ◌<◌, ◌≤◌, [], length, None, Some, IfOk, IfErr, OnOk, OnErr, IsOk, IsErrOf, MatchResult, Ok, Err};
-ghost use Rattle.std.specs.Option.{option_map_or};
-ghost use Rattle.tlsf_class.specs.Classes.{IsLevel, most_words};
-ghost use Rattle.tlsf_heap.specs.Calls.{last_tick, opened, released};
+ghost use Rattle.tlsf_class.specs.Classes.{most_words};
+ghost use Rattle.tlsf_heap.specs.Calls.{last_tick, opened};
 ghost use Rattle.tlsf_heap.specs.GoodFit.{fits};
 ghost use Rattle.tlsf_heap.specs.Placed.{placed_at};
 ghost use Rattle.tlsf_heap.specs.Reports.{report_of};
 ghost use Rattle.tlsf_heap.specs.Touched.{FollowsNoPlace};
 ghost use Rattle.tlsf_heap.specs.declared.name.Name.{Name};
 ghost use Rattle.tlsf_arena.specs.Arenas.{Holds};
+ghost use Rattle.tlsf_arena.specs.Effects.{HasHome, Releases, answer_of};
 ghost use Rattle.tlsf_arena.specs.Loans.{units_of};
-ghost use Rattle.tlsf_arena.specs.Units.{IsUnit, piece_size, units_for};
-ghost use Rattle.tlsf_pool_arena.specs.PoolArenas.{IsPoolArena, SamePlan, SamePoolArena, fixed_bytes, fixed_size, pool_requested, resized_in_pool, units_of_pool};
+ghost use Rattle.tlsf_arena.specs.Units.{IsArenaOf, piece_size, units_for};
+ghost use Rattle.tlsf_pool_arena.specs.PoolArenas.{IsPoolArena, KeepsPlan, Looks, SamePoolArena, arena_of, fixed_bytes, fixed_size, pool_requested, resized_in_pool, units_of_pool};
 
 use crate::units::fixed_units;
 use std::alloc::Global;
@@ -49,8 +49,7 @@ impl<const SLI: u32, const UNIT: usize> Model for PoolArena<SLI, UNIT> {
 
 // The bytes of each block: those of the units from which every free block serves the longest request.
 fn bytes_of_each<const SLI: u32, const UNIT: usize>(longest: u32) -> u32
-    requires level { IsLevel SLI }
-    requires unit { IsUnit UNIT }
+    requires kind { IsArenaOf SLI UNIT }
     requires class { units_for UNIT longest ≤ most_words SLI }
     ensures { result ≡ fixed_bytes SLI UNIT longest }
 {
@@ -75,8 +74,7 @@ impl<const SLI: u32, const UNIT: usize> PoolArena<SLI, UNIT> {
         most: u32,
         longest: u32,
     ) -> Result<PoolArena<SLI, UNIT>, OpenFault>
-        requires level { IsLevel SLI }
-        requires unit { IsUnit UNIT }
+        requires kind { IsArenaOf SLI UNIT }
         ensures heap { IfOk result (λ p. (units : ℕ) → units_of_pool SLI UNIT most longest ≡ Some units → (p.heap ≡ opened id units 0) × (p.region.end ≡ p.region.start + UNIT * units)) }
         ensures leased { IfOk result (λ p. p.leased ≡ true) }
         ensures most { IfOk result (λ p. p.most ≡ most) }
@@ -128,12 +126,9 @@ impl<const SLI: u32, const UNIT: usize> PoolArena<SLI, UNIT> {
         ensures others { (other : Name) (units : ℕ) → Holds self.old.heap other units → Holds self.new.heap other units }
         ensures held { OnOk result (self.new.held ≡ self.old.held + 1) }
         ensures err { OnErr result (SamePoolArena self.old self.new) }
-        ensures plan { SamePlan self.old self.new }
 
         // Accepted or refused, whatever the length: at most 64 touches.
-        ensures touches { self.new.touches ≤ self.old.touches + 64 }
-        ensures touches_rise { self.old.touches ≤ self.new.touches }
-        ensures compared { self.new.compared ≡ self.old.compared }
+        ensures keeps { KeepsPlan 64 self.old self.new }
     {
         if len > self.longest {
             return Err(PoolRefusal::TooLong);
@@ -161,21 +156,11 @@ impl<const SLI: u32, const UNIT: usize> PoolArena<SLI, UNIT> {
     /// arena.release(block).is_ok()
     /// ```
     pub fn release(&mut self, block: Block<UNIT>) -> Result<(), (Refusal, Block<UNIT>)>
-        requires region { block.piece.region ≡ self.old.region }
-        requires book { block.right.book ≡ self.old.book }
-        ensures answer { MatchResult result (λ _. (released self.old.heap block.entry.name).answer ≡ Ok tt) (λ e. (released self.old.heap block.entry.name).answer ≡ Err e.0) }
-        ensures heap { self.new.heap ≡ (released self.old.heap block.entry.name).heap }
+        requires own { HasHome self.old.region self.old.book block }
+        ensures releases { Releases (arena_of self.old) (arena_of self.new) block.entry.name (units_of block.entry.right.loan) (answer_of (λ e. e.0) result) }
         ensures held { OnOk result (self.new.held + 1 ≡ self.old.held) }
-
-        // A block that is out is live, and a refusal, which comes at the last tick alone, changes nothing and gives it back.
-        ensures live { Holds self.old.heap block.entry.name (units_of block.entry.right.loan) }
-        ensures worn { IfErr result (λ e. e.0 ≡ Refusal.Worn) }
         ensures err { IfErr result (λ e. SamePoolArena self.old self.new × (e.1 ≡ block.entry)) }
-        ensures others { (other : Name) (units : ℕ) → other ≢ block.entry.name → Holds self.old.heap other units → Holds self.new.heap other units }
-        ensures plan { SamePlan self.old self.new }
-        ensures touches { self.new.touches ≤ self.old.touches + 60 }
-        ensures touches_rise { self.old.touches ≤ self.new.touches }
-        ensures compared { self.new.compared ≡ self.old.compared }
+        ensures keeps { KeepsPlan 60 self.old self.new }
     {
         match self.arena.release(block) {
             Ok(()) => {
@@ -202,8 +187,7 @@ impl<const SLI: u32, const UNIT: usize> PoolArena<SLI, UNIT> {
         block: Block<UNIT>,
         len: u32,
     ) -> Result<Block<UNIT>, (Refusal, Block<UNIT>)>
-        requires region { block.piece.region ≡ self.old.region }
-        requires book { block.right.book ≡ self.old.book }
+        requires own { HasHome self.old.region self.old.book block }
         ensures answer { MatchResult result (λ _. (resized_in_pool SLI UNIT self.old block.entry.name len).answer ≡ Ok tt) (λ e. (resized_in_pool SLI UNIT self.old block.entry.name len).answer ≡ Err e.0) }
         ensures heap { self.new.heap ≡ (resized_in_pool SLI UNIT self.old block.entry.name len).heap }
 
@@ -217,10 +201,7 @@ impl<const SLI: u32, const UNIT: usize> PoolArena<SLI, UNIT> {
         ensures err { IfErr result (λ e. SamePoolArena self.old self.new × (e.1 ≡ block.entry)) }
         ensures named { IfErr result (λ e. (e.0 ≢ Refusal.Stale) × (e.0 ≢ Refusal.Foreign)) }
         ensures others { (other : Name) (units : ℕ) → other ≢ block.entry.name → Holds self.old.heap other units → Holds self.new.heap other units }
-        ensures plan { SamePlan self.old self.new }
-        ensures touches { self.new.touches ≤ self.old.touches + 64 }
-        ensures touches_rise { self.old.touches ≤ self.new.touches }
-        ensures compared { self.new.compared ≡ self.old.compared }
+        ensures keeps { KeepsPlan 64 self.old self.new }
     {
         if self.longest >= len {
             return self.arena.resize(block, self.bytes);
@@ -240,10 +221,7 @@ impl<const SLI: u32, const UNIT: usize> PoolArena<SLI, UNIT> {
     pub fn report(&mut self) -> Report
         ensures report { result ≡ report_of SLI self.old.heap }
         ensures held { result.live_blocks ≡ self.old.held }
-        ensures same { SamePoolArena self.old self.new }
-        ensures touches { self.new.touches ≤ self.old.touches + 2 * length self.old.heap.blocks }
-        ensures touches_rise { self.old.touches ≤ self.new.touches }
-        ensures compared { self.new.compared ≡ self.old.compared }
+        ensures looks { Looks (2 * length self.old.heap.blocks) self.old self.new }
     {
         self.arena.report()
     }
@@ -255,10 +233,7 @@ impl<const SLI: u32, const UNIT: usize> PoolArena<SLI, UNIT> {
     /// ```
     pub fn free_units(&mut self) -> u32
         ensures free { result ≡ (report_of SLI self.old.heap).free_words }
-        ensures same { SamePoolArena self.old self.new }
-        ensures touches { self.new.touches ≤ self.old.touches + 2 * length self.old.heap.blocks }
-        ensures touches_rise { self.old.touches ≤ self.new.touches }
-        ensures compared { self.new.compared ≡ self.old.compared }
+        ensures looks { Looks (2 * length self.old.heap.blocks) self.old self.new }
     {
         self.report().free_words
     }
@@ -272,10 +247,7 @@ impl<const SLI: u32, const UNIT: usize> PoolArena<SLI, UNIT> {
     /// ```
     pub fn block_at(&mut self, at: u32) -> Option<PlacedBlock>
         ensures block { result ≡ placed_at self.old.heap.blocks at }
-        ensures same { SamePoolArena self.old self.new }
-        ensures touches { self.new.touches ≤ self.old.touches + 4 }
-        ensures touches_rise { self.old.touches ≤ self.new.touches }
-        ensures compared { self.new.compared ≡ self.old.compared }
+        ensures looks { Looks 4 self.old self.new }
         ensures wild { FollowsNoPlace self.old.heap at self.old.touches self.new.touches }
     {
         self.arena.block_at(at)

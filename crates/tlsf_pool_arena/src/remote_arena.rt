@@ -1,11 +1,10 @@
 ghost use Rattle.std.specs.Prelude.{◌≡◌, ◌↔◌, ℕ, ◌+◌, ◌*◌, ◌<◌, ◌≤◌, Bool, List, [], ◌∷◌, ◌++◌, true, false, Some, None, IfOk, IsOk, IsErrOf, OnOk, OnErr, Ok, replicate, slice_get, slice_set};
 ghost use Rattle.std.specs.List.{range_with_len};
-ghost use Rattle.tlsf_class.specs.Classes.{IsLevel};
 ghost use Rattle.tlsf_heap.specs.Calls.{last_tick, opened, released};
 ghost use Rattle.tlsf_arena.specs.Arenas.{Holds};
-ghost use Rattle.tlsf_arena.specs.Units.{IsUnit, piece_size};
-ghost use Rattle.tlsf_pool_arena.specs.PoolArenas.{SamePlan, SamePoolArena, fixed_bytes, fixed_size, pool_requested, units_of_pool};
-ghost use Rattle.tlsf_pool_arena.specs.Remotes.{IsAwayBy, NoneLost, TakesHome, idle_slots};
+ghost use Rattle.tlsf_arena.specs.Units.{IsArenaOf, piece_size};
+ghost use Rattle.tlsf_pool_arena.specs.PoolArenas.{SamePoolArena, fixed_bytes, fixed_size, pool_requested, units_of_pool};
+ghost use Rattle.tlsf_pool_arena.specs.Remotes.{GoesOn, IsAwayBy, NoneLost, TakesHome, idle_slots};
 ghost use Rattle.tlsf_pool_arena.specs.declared.parcel.Parcel as parcel;
 ghost use Rattle.tlsf_pool_arena.specs.returns.Ends.{away_by, id_of, looks_of, owner_id, slot_by};
 
@@ -56,8 +55,7 @@ impl<const SLI: u32, const UNIT: usize> RemoteArena<SLI, UNIT> {
         most: u32,
         longest: u32,
     ) -> Result<RemoteArena<SLI, UNIT>, OpenFault>
-        requires level { IsLevel SLI }
-        requires unit { IsUnit UNIT }
+        requires kind { IsArenaOf SLI UNIT }
         requires fresh { away_by owner ≡ replicate most None }
         ensures heap { IfOk result (λ r. (units : ℕ) → units_of_pool SLI UNIT most longest ≡ Some units → (r.arena.heap ≡ opened id units 0) × (r.arena.region.end ≡ r.arena.region.start + UNIT * units)) }
         ensures bounds { IfOk result (λ r. (r.arena.most ≡ most) × (r.arena.longest ≡ longest) × (r.arena.held ≡ 0)) }
@@ -97,7 +95,6 @@ impl<const SLI: u32, const UNIT: usize> RemoteArena<SLI, UNIT> {
         len: u32,
     ) -> Result<RemoteBlock<'a, UNIT>, PoolRefusal>
         requires own { self.old.slots ≡ id_of slots.now }
-        ensures own { self.new.slots ≡ self.old.slots }
         ensures ok { IsOk result ↔ ((len ≤ self.old.arena.longest) × (self.old.arena.held < self.old.arena.most) × ¬ (self.old.arena.heap.tick ≡ last_tick)) }
 
         // The refusals, in their order, and that nothing changes then.
@@ -116,12 +113,8 @@ impl<const SLI: u32, const UNIT: usize> RemoteArena<SLI, UNIT> {
         ensures last { IfOk result (λ b. self.old.idle ≡ self.new.idle ++ slot_by b.ticket ∷ []) }
         ensures held { IfOk result (λ _. self.new.arena.held ≡ self.old.arena.held + 1) }
         ensures idle { NoneLost self.new }
-        ensures plan { SamePlan self.old.arena self.new.arena }
-        ensures stays { self.new.extent ≡ self.old.extent }
         ensures looks { self.new.looks ≡ self.old.looks }
-        ensures touches { self.new.arena.touches ≤ self.old.arena.touches + 64 }
-        ensures compared { self.new.arena.compared ≡ self.old.arena.compared }
-        ensures steps { self.new.steps ≤ self.old.steps + 1 }
+        ensures goes_on { GoesOn 64 1 self.old self.new }
     {
         let block = self.arena.allocate(len)?;
         let last = (self.count - self.arena.held()) as usize;
@@ -146,19 +139,14 @@ impl<const SLI: u32, const UNIT: usize> RemoteArena<SLI, UNIT> {
     pub fn take_home(&mut self, slots: &Slots<Parcel<UNIT>>, at: u32) -> bool
         requires own { self.old.slots ≡ id_of slots.now }
         requires slot { at < self.old.arena.most }
-        ensures own { self.new.slots ≡ self.old.slots }
         ensures home { result ≡ true → (b : parcel.Parcel UNIT) × (slice_get self.old.away at ≡ Some (Some b)) × (self.new.away ≡ slice_set self.old.away at None) × (self.new.arena.heap ≡ (released self.old.arena.heap b.block.name).heap) × (self.new.arena.held + 1 ≡ self.old.arena.held) × (self.new.idle ≡ self.old.idle ++ at ∷ []) }
         ensures none { result ≡ false → (self.new.away ≡ self.old.away) × (self.new.arena.heap ≡ self.old.arena.heap) × (self.new.arena.held ≡ self.old.arena.held) × (self.new.idle ≡ self.old.idle) }
-        ensures plan { SamePlan self.old.arena self.new.arena }
-        ensures stays { self.new.extent ≡ self.old.extent }
 
         // Until the last tick it looks at the slot once, and takes the block exactly where it was home at that look.
         ensures looks { ¬ (self.old.arena.heap.tick ≡ last_tick) → self.new.looks ≡ self.old.looks ++ (at, result) ∷ [] }
         ensures worn { self.old.arena.heap.tick ≡ last_tick → (result ≡ false) × (self.new.looks ≡ self.old.looks) }
         ensures idle { NoneLost self.new }
-        ensures touches { self.new.arena.touches ≤ self.old.arena.touches + 60 }
-        ensures compared { self.new.arena.compared ≡ self.old.arena.compared }
-        ensures steps { self.new.steps ≤ self.old.steps + 1 }
+        ensures goes_on { GoesOn 60 1 self.old self.new }
     {
         if self.arena.tick() == u64::MAX {
             return false;
@@ -184,17 +172,12 @@ impl<const SLI: u32, const UNIT: usize> RemoteArena<SLI, UNIT> {
     /// ```
     pub fn drain(&mut self, slots: &Slots<Parcel<UNIT>>) -> u32
         requires own { self.old.slots ≡ id_of slots.now }
-        ensures own { self.new.slots ≡ self.old.slots }
         ensures held { self.new.arena.held + result ≡ self.old.arena.held }
         ensures taken { (seen : List Bool) × TakesHome self.old self.new seen }
         ensures idle { NoneLost self.new }
-        ensures plan { SamePlan self.old.arena self.new.arena }
-        ensures stays { self.new.extent ≡ self.old.extent }
 
         // At most 60 touches for each slot, and one step on the list of idle slots.
-        ensures touches { self.new.arena.touches ≤ self.old.arena.touches + 60 * self.old.arena.most }
-        ensures compared { self.new.arena.compared ≡ self.old.arena.compared }
-        ensures steps { self.new.steps ≤ self.old.steps + self.old.arena.most }
+        ensures goes_on { GoesOn (60 * self.old.arena.most) self.old.arena.most self.old self.new }
     {
         let before = self.arena.held();
         for at in 0..self.count {

@@ -1,12 +1,13 @@
-ghost use Rattle.std.specs.Prelude.{◌≡◌, ◌+◌, ◌<◌, length, Some, IfOk, slice_get, slice_set};
+ghost use Rattle.std.specs.Prelude.{◌≡◌, ◌<◌, length, Some, IfOk, slice_get, slice_set};
 ghost use Rattle.std.specs.List.{range_with_len};
+ghost use Rattle.tlsf_pool_arena.specs.Remotes.{StepsOnce};
 
 use std::alloc::{AllocError, Global};
 use std::marker::Model;
 use tlsf_class::Touches;
 
 /// Numbers of slots, and how often one was read or written. Each step on them goes through one read and one write, which count.
-/// Neither takes memory (`stays`).
+/// Neither takes memory (`steps`).
 #[derive(Drop)]
 pub(crate) struct SlotList {
     slots: Vec<u32, Global>,
@@ -39,8 +40,7 @@ impl SlotList {
         requires { at < length self.old.slots }
         ensures slot { slice_get self.old.slots at ≡ Some result }
         ensures slots { self.new.slots ≡ self.old.slots }
-        ensures stays { self.new.extent ≡ self.old.extent }
-        ensures steps { self.new.steps ≡ self.old.steps + 1 }
+        ensures steps { StepsOnce self.old self.new }
     {
         let slot = self.slots[at];
         self.steps.add_one();
@@ -51,8 +51,7 @@ impl SlotList {
     pub(crate) fn write(&mut self, at: usize, slot: u32)
         requires { at < length self.old.slots }
         ensures slots { self.new.slots ≡ slice_set self.old.slots at slot }
-        ensures stays { self.new.extent ≡ self.old.extent }
-        ensures steps { self.new.steps ≡ self.old.steps + 1 }
+        ensures steps { StepsOnce self.old self.new }
     {
         self.slots[at] = slot;
         self.steps.add_one();

@@ -1,6 +1,6 @@
 ghost use Rattle.std.specs.Prelude.{◌≡◌, ℕ};
 ghost use Rattle.tlsf_class.specs.Classes.{IsLevel};
-ghost use Rattle.tlsf_arena.specs.Units.{IsUnit};
+ghost use Rattle.tlsf_arena.specs.Units.{IsArenaOf, IsUnit};
 ghost use Rattle.tlsf_pool_arena.specs.MixedUnits.{MixedUnitsAreKept, MixedUnitsBegin, MixedUnitsFindRoom, length_for, units_of_mixed};
 ghost use Rattle.tlsf_pool_arena.specs.PoolArenas.{units_of_pool};
 
@@ -25,8 +25,7 @@ fn length_in_heap<const UNIT: usize>(len: u32) -> u32
 /// let none = fixed_units::<4, 16>(100_000, 512);    // None
 /// ```
 pub fn fixed_units<const SLI: u32, const UNIT: usize>(most: u32, longest: u32) -> Option<u32>
-    requires level { IsLevel SLI }
-    requires unit { IsUnit UNIT }
+    requires { IsArenaOf SLI UNIT }
     ensures { result ≡ units_of_pool SLI UNIT most longest }
 {
     fixed_region::<SLI>(most, length_in_heap::<UNIT>(longest))
@@ -41,8 +40,7 @@ pub fn fixed_units<const SLI: u32, const UNIT: usize>(most: u32, longest: u32) -
 /// let none = mixed_units::<4, 16>(100_000, 512);    // None
 /// ```
 pub fn mixed_units<const SLI: u32, const UNIT: usize>(most: u32, longest: u32) -> Option<u32>
-    requires level { IsLevel SLI }
-    requires unit { IsUnit UNIT }
+    requires { IsArenaOf SLI UNIT }
     ensures { result ≡ units_of_mixed SLI UNIT most longest }
 {
     mixed_region::<SLI>(most, length_in_heap::<UNIT>(longest))

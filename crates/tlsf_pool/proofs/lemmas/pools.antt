@@ -3,6 +3,7 @@
 --   RowTotals: how many lengths count for each row of a table
 --   Given: the block that a pool gave has just the words of each
 --   Heaps: several heaps stay heaps for the parts of a table
+--   OnParts: what a call on one part leaves
 --   Opened: new heaps for the parts of a table
 --   PoolKept: a pool stays one through its calls
 --   PoolTells: what the answers of a pool tell
@@ -14,6 +15,7 @@ pub mod Answering
 pub mod RowTotals
 pub mod Given
 pub mod Heaps
+pub mod OnParts
 pub mod Opened
 pub mod PoolKept
 pub mod PoolTells

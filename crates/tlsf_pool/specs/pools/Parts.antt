@@ -1,6 +1,6 @@
 -- Several heaps, one for each part of a table.
 use denote.RawPtr.{null_ptr}
-use Rattle.std.specs.Prelude.{◌≡◌, ℕ, ◌+◌, ◌-◌, ◌<◌, ◌≤◌, Bool, List, [], ◌∷◌, ◌++◌, Option, Some, None, Result, Ok, IfOk, OnErr, OnOk, is_some, length, map, nat_le, nat_lt, position, replicate, set, slice_index, slice_index_or, sum, take, ⊤, ◌&&◌, if◌then◌else◌}
+use Rattle.std.specs.Prelude.{◌≡◌, ℕ, ◌+◌, ◌-◌, ◌<◌, ◌≤◌, Bool, List, [], ◌∷◌, ◌++◌, Option, Some, None, Result, Ok, IfOk, IfSome, OnErr, OnOk, is_some, length, map, nat_le, nat_lt, position, replicate, set, slice_index, slice_index_or, sum, take, ⊤, ◌&&◌, if◌then◌else◌}
 use Rattle.std.specs.List.{AllByRecursion}
 use Rattle.tlsf_heap.specs.Calls.{opened}
 use Rattle.tlsf_heap.specs.Footprint.{LeavesLive}
@@ -175,3 +175,23 @@ pub record Checks (old new : TableState) (from most : ℕ) (answer : Option Chec
   pub checks : heap.ChecksBlocks old.stored from most (seen_by old) (seen_by new) answer
   pub stored : new.stored ≡ old.stored
   pub same : SameLedger old new
+
+-- ---- what a call on one part leaves: the others, the table and all memory
+
+-- a call on this part, if there is one: `does` says what it does there
+pub record OnPart (sli : ℕ) (old new : PoolsState) (part : Option ℕ) (does : TableState → TableState → Type 0) : Type 0 where
+  pub here : IfSome part (λ i. does (part_at old i) (part_at new i))
+  pub others : IfSome part (OnlyPart old new)
+  pub kinds : table_of new ≡ table_of old
+  pub stays : Stay old new
+  pub were_pools : ArePools sli old
+  pub pools : ArePools sli new
+
+-- a call on the part of this number
+pub record AtPart (sli : ℕ) (old new : PoolsState) (part : ℕ) (does : TableState → TableState → Type 0) : Type 0 where
+  pub here : does (part_at old part) (part_at new part)
+  pub others : part < length old.parts → OnlyPart old new part
+  pub kinds : table_of new ≡ table_of old
+  pub stays : Stay old new
+  pub were_pools : ArePools sli old
+  pub pools : ArePools sli new

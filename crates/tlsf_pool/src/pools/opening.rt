@@ -1,7 +1,7 @@
-ghost use Rattle.std.specs.Prelude.{◌≡◌, ◌≤◌, ◌+◌, ◌^◌, length, IfOk, IfErr};
+ghost use Rattle.std.specs.Prelude.{◌≡◌, ◌≤◌, ◌+◌, ◌^◌, IfOk, IfErr};
 ghost use Rattle.std.specs.List.{AllByRecursion};
-ghost use Rattle.tlsf_class.specs.Classes.{IsLevel};
 ghost use Rattle.tlsf_heap.specs.Calls.{last_tick};
+ghost use Rattle.tlsf_pool.specs.sizes.Limits.{AreRows};
 ghost use Rattle.tlsf_pool.specs.sizes.Rising.{Rises};
 ghost use Rattle.tlsf_pool.specs.sizes.Splits.{IsPart, parts_of};
 ghost use Rattle.tlsf_pool.specs.pools.Tables.{IsTabled};
@@ -21,8 +21,7 @@ pub(crate) fn open_parts<const SLI: u32>(
     split: &Split,
     first: u64,
 ) -> Result<Vec<TablePool<SLI>>, OpenFault>
-    requires level { IsLevel SLI }
-    requires few { length kinds.now ≤ 64 }
+    requires rows { AreRows SLI kinds.now }
     requires numbers { id + 8 ≤ 2 ^ 32 }
     requires heaps { split.now.heaps ≤ 8 }
     requires parts { AllByRecursion (IsPart SLI) (parts_of split.now kinds.now) }

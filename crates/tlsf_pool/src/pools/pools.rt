@@ -1,12 +1,12 @@
 ghost use Rattle.std.specs.Prelude.{◌≡◌, ◌≢◌, ◌+◌, ◌<◌, ◌≤◌, ◌^◌, ◌↔◌, Err, None, length, IfOk, IfSome, IsSomeAnd, OnOk, IsOk, IsErrOf};
-ghost use Rattle.tlsf_class.specs.Classes.{IsLevel};
 ghost use Rattle.tlsf_heap.specs.Calls.{last_tick};
+ghost use Rattle.tlsf_pool.specs.sizes.Limits.{AreRows};
 ghost use Rattle.tlsf_pool.specs.sizes.Rising.{HasNoHeaps};
 ghost use Rattle.tlsf_pool.specs.sizes.Splits.{IsLeast, parts_of};
 ghost use Rattle.tlsf_pool.specs.declared.sizes.split.Split.{Split};
 ghost use Rattle.tlsf_pool.specs.pools.Tables.{AreAllReached, HasPlace, HoldsOneMore, IsFull, row_of, table_allocated};
 ghost use Rattle.tlsf_pool.specs.pools.Parts as cut;
-ghost use Rattle.tlsf_pool.specs.pools.Parts.{Allocates, AreNew, ArePools, HasRow, Looks, OnlyPart, Reads, Releases, Reports, Stay, Writes, held_by, part_at, table_of};
+ghost use Rattle.tlsf_pool.specs.pools.Parts.{Allocates, AreNew, ArePools, AtPart, HasRow, Looks, OnPart, Reads, Releases, Reports, Writes, held_by, part_at, table_of};
 
 mod by_pointer;
 mod check;
@@ -77,8 +77,7 @@ impl<const SLI: u32> Pools<SLI> {
     /// let pools = Pools::<4>::open(alloc, 0, &kinds, 0)?;             // heaps of 22,000 and 8,704 words
     /// ```
     pub fn open(alloc: Global, id: u32, kinds: &[Kind], first: u64) -> Result<Pools<SLI>, OpenFault>
-        requires level { IsLevel SLI }
-        requires few { length kinds.now ≤ 64 }
+        requires rows { AreRows SLI kinds.now }
         requires numbers { id + 8 ≤ 2 ^ 32 }
 
         // The heaps are new, for the parts of a way to cut the table that has the fewest words of all.
@@ -121,8 +120,7 @@ impl<const SLI: u32> Pools<SLI> {
         ensures room { IfSome (cut.part_of self.old len) (λ i. HasPlace (part_at self.old i).ledger len → (table_allocated SLI (part_at self.old i).heap (part_at self.old i).ledger len).answer ≢ Err Refusal.NoFit) }
 
         // The heap of that part allocates, and all others are as they were.
-        ensures allocates { IfSome (cut.part_of self.old len) (λ i. Allocates SLI (part_at self.old i) (part_at self.new i) len result) }
-        ensures others { IfSome (cut.part_of self.old len) (OnlyPart self.old self.new) }
+        ensures allocates { OnPart SLI self.old self.new (cut.part_of self.old len) (λ old new. Allocates SLI old new len result) }
         ensures none { cut.part_of self.old len ≡ None → self.new ≡ self.old }
 
         // In the rows of the whole table. A request counts for the first that is long enough, and its block is of the heap that has
@@ -130,10 +128,6 @@ impl<const SLI: u32> Pools<SLI> {
         ensures no_row { IsErrOf result PoolRefusal.TooLong ↔ (row_of (table_of self.old) len ≡ None) }
         ensures row { IfOk result (λ name. IsSomeAnd (row_of (table_of self.old) len) (λ row. IsSomeAnd (cut.part_named self.old name) (HasRow self.old row))) }
         ensures held { OnOk result (HoldsOneMore (table_of self.old) len (held_by self.old) (held_by self.new)) }
-        ensures kinds { table_of self.new ≡ table_of self.old }
-        ensures stays { Stay self.old self.new }
-        ensures were_pools { ArePools SLI self.old }
-        ensures pools { ArePools SLI self.new }
     {
         let Some(part) = part_of(&self.parts, len) else {
             return Err(PoolRefusal::TooLong);
@@ -151,13 +145,8 @@ impl<const SLI: u32> Pools<SLI> {
     /// pools.release(name) == Ok(())
     /// ```
     pub fn release(&mut self, name: Name) -> Result<(), Refusal>
-        ensures releases { IfSome (cut.part_named self.old name) (λ i. Releases (part_at self.old i) (part_at self.new i) name result) }
-        ensures others { IfSome (cut.part_named self.old name) (OnlyPart self.old self.new) }
+        ensures releases { OnPart SLI self.old self.new (cut.part_named self.old name) (λ old new. Releases old new name result) }
         ensures foreign { cut.part_named self.old name ≡ None → (result ≡ Err Refusal.Foreign) × (self.new ≡ self.old) }
-        ensures kinds { table_of self.new ≡ table_of self.old }
-        ensures stays { Stay self.old self.new }
-        ensures were_pools { ArePools SLI self.old }
-        ensures pools { ArePools SLI self.new }
     {
         let Some(part) = part_named(&self.parts, self.id, name) else {
             return Err(Refusal::Foreign);
@@ -174,13 +163,8 @@ impl<const SLI: u32> Pools<SLI> {
     /// pools.write(name, 6, &[0x48, 0x69]) == Ok(())
     /// ```
     pub fn write(&mut self, name: Name, at: u32, bytes: &[u8]) -> Result<(), Refusal>
-        ensures writes { IfSome (cut.part_named self.old name) (λ i. Writes (part_at self.old i) (part_at self.new i) name at bytes.now result) }
-        ensures others { IfSome (cut.part_named self.old name) (OnlyPart self.old self.new) }
+        ensures writes { OnPart SLI self.old self.new (cut.part_named self.old name) (λ old new. Writes old new name at bytes.now result) }
         ensures foreign { cut.part_named self.old name ≡ None → (result ≡ Err Refusal.Foreign) × (self.new ≡ self.old) }
-        ensures kinds { table_of self.new ≡ table_of self.old }
-        ensures stays { Stay self.old self.new }
-        ensures were_pools { ArePools SLI self.old }
-        ensures pools { ArePools SLI self.new }
     {
         let Some(part) = part_named(&self.parts, self.id, name) else {
             return Err(Refusal::Foreign);
@@ -199,13 +183,8 @@ impl<const SLI: u32> Pools<SLI> {
     /// pools.read(name, 6, &mut out)?;         // after the write above: out == [0x48, 0x69]
     /// ```
     pub fn read(&mut self, name: Name, at: u32, out: &mut [u8]) -> Result<(), Refusal>
-        ensures reads { IfSome (cut.part_named self.old name) (λ i. Reads (part_at self.old i) (part_at self.new i) name at out.old out.new result) }
-        ensures others { IfSome (cut.part_named self.old name) (OnlyPart self.old self.new) }
+        ensures reads { OnPart SLI self.old self.new (cut.part_named self.old name) (λ old new. Reads old new name at out.old out.new result) }
         ensures foreign { cut.part_named self.old name ≡ None → (result ≡ Err Refusal.Foreign) × (out.new ≡ out.old) × (self.new ≡ self.old) }
-        ensures kinds { table_of self.new ≡ table_of self.old }
-        ensures stays { Stay self.old self.new }
-        ensures were_pools { ArePools SLI self.old }
-        ensures pools { ArePools SLI self.new }
     {
         let Some(part) = part_named(&self.parts, self.id, name) else {
             return Err(Refusal::Foreign);
@@ -222,13 +201,8 @@ impl<const SLI: u32> Pools<SLI> {
     /// ```
     pub fn report(&mut self, part: usize) -> Option<Report>
         ensures none { (result ≡ None) ↔ (length self.old.parts ≤ part) }
-        ensures reports { IfSome result (Reports SLI (part_at self.old part) (part_at self.new part)) }
-        ensures others { part < length self.old.parts → OnlyPart self.old self.new part }
+        ensures reports { AtPart SLI self.old self.new part (λ old new. IfSome result (Reports SLI old new)) }
         ensures unchanged { length self.old.parts ≤ part → self.new ≡ self.old }
-        ensures kinds { table_of self.new ≡ table_of self.old }
-        ensures stays { Stay self.old self.new }
-        ensures were_pools { ArePools SLI self.old }
-        ensures pools { ArePools SLI self.new }
     {
         if part >= self.parts.len() {
             return None;
@@ -245,12 +219,7 @@ impl<const SLI: u32> Pools<SLI> {
     /// ```
     pub fn block_at(&mut self, part: usize, at: u32) -> Option<PlacedBlock>
         ensures none { length self.old.parts ≤ part → (result ≡ None) × (self.new ≡ self.old) }
-        ensures looks { part < length self.old.parts → Looks (part_at self.old part) (part_at self.new part) at result }
-        ensures others { part < length self.old.parts → OnlyPart self.old self.new part }
-        ensures kinds { table_of self.new ≡ table_of self.old }
-        ensures stays { Stay self.old self.new }
-        ensures were_pools { ArePools SLI self.old }
-        ensures pools { ArePools SLI self.new }
+        ensures looks { AtPart SLI self.old self.new part (λ old new. part < length self.old.parts → Looks old new at result) }
     {
         if part >= self.parts.len() {
             return None;

@@ -1,8 +1,8 @@
 ghost use Rattle.std.specs.Prelude.{◌≡◌, ◌-◌, ◌<◌, ◌≤◌, ◌^◌, ◌↔◌, Some, length, slice_index, replicate, is_some, IfOk, IsErrOf};
-ghost use Rattle.tlsf_class.specs.Classes.{IsLevel};
 ghost use Rattle.tlsf_heap.specs.Calls.{opened, last_tick};
 ghost use Rattle.tlsf_heap.specs.InPlace.{payload_of};
 ghost use Rattle.tlsf_pool.specs.laws.FixedSize as law;
+ghost use Rattle.tlsf_pool.specs.sizes.Limits.{AreRows};
 ghost use Rattle.tlsf_pool.specs.sizes.Rising.{Rises};
 ghost use Rattle.tlsf_pool.specs.sizes.Splits.{HasWords};
 ghost use Rattle.tlsf_pool.specs.pools.Tables as tables;
@@ -167,8 +167,7 @@ pub trait TablePoolCalls<const SLI: u32>: Sized {
     /// let pool = TablePool::<4>::open(alloc, 0, &kinds, 0)?;                  // 56,576 words
     /// ```
     fn open(alloc: Global, id: u32, kinds: &[Kind], first: u64) -> Result<Self, OpenFault>
-        requires level { IsLevel SLI }
-        requires few { length kinds.now ≤ 64 }
+        requires rows { AreRows SLI kinds.now }
         ensures heap { IfOk result (λ pool. (shown pool).heap ≡ opened id (law.fixed_kinds_words SLI kinds.now) first) }
         ensures kinds { IfOk result (λ pool. (shown pool).ledger.kinds ≡ kinds.now) }
         ensures none { IfOk result (λ pool. (shown pool).ledger.held ≡ replicate (length kinds.now) 0) }

@@ -1,4 +1,4 @@
-ghost use Rattle.std.specs.Prelude.{◌≡◌, ◌≤◌, length, IfSome, None};
+ghost use Rattle.std.specs.Prelude.{◌≡◌, ◌≤◌, IfSome, None};
 ghost use Rattle.std.specs.List.{AllByRecursion};
 ghost use Rattle.tlsf_class.specs.Classes as class;
 ghost use Rattle.tlsf_class.specs.Classes.{IsLevel};
@@ -6,7 +6,7 @@ ghost use Rattle.tlsf_pool.specs.laws.FixedSize as law;
 ghost use Rattle.tlsf_pool.specs.laws.FixedSize.{HasFixedRegion, fixed_words};
 ghost use Rattle.tlsf_pool.specs.laws.Kinds.{HasClass, used};
 ghost use Rattle.tlsf_pool.specs.laws.OneLarge.{longest_of};
-ghost use Rattle.tlsf_pool.specs.sizes.Limits.{most_kinds};
+ghost use Rattle.tlsf_pool.specs.sizes.Limits.{AreTold};
 
 use crate::kind::Kind;
 use crate::sizes::sizing::{most_bytes, sure, totals_of};
@@ -74,9 +74,7 @@ pub(crate) fn fixed_size<const SLI: u32>(kinds: &[Kind]) -> u32
 /// let words = fixed_kinds_words::<4>(&[Kind { most: 100, len: 512 }]);   // 6,800
 /// ```
 pub fn fixed_kinds_words<const SLI: u32>(kinds: &[Kind]) -> u64
-    requires level { IsLevel SLI }
-    requires classes { AllByRecursion (HasClass SLI) kinds.now }
-    requires few { length kinds.now ≤ most_kinds SLI }
+    requires { AreTold SLI kinds.now }
     ensures { result ≡ law.fixed_kinds_words SLI kinds.now }
 {
     let totals = totals_of::<SLI>(kinds);

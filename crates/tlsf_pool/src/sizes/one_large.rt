@@ -1,9 +1,8 @@
-ghost use Rattle.std.specs.Prelude.{◌≡◌, ◌≤◌, ◌<◌, length, IfSome, None};
-ghost use Rattle.std.specs.List.{AllByRecursion};
-ghost use Rattle.tlsf_class.specs.Classes.{IsLevel, most_words};
+ghost use Rattle.std.specs.Prelude.{◌≡◌, ◌≤◌, ◌<◌, IfSome, None};
+ghost use Rattle.tlsf_class.specs.Classes.{most_words};
 ghost use Rattle.tlsf_pool.specs.laws.Kinds.{HasClass};
 ghost use Rattle.tlsf_pool.specs.laws.OneLarge as law;
-ghost use Rattle.tlsf_pool.specs.sizes.Limits.{most_kinds};
+ghost use Rattle.tlsf_pool.specs.sizes.Limits.{AreTold};
 
 use crate::kind::Kind;
 use crate::sizes::sizing::{sure, totals_of};
@@ -32,9 +31,7 @@ fn longest_of(kinds: &[Kind]) -> u32
 /// let words = one_large_words::<4>(&[small], large);      // Some(121740)
 /// ```
 pub fn one_large_words<const SLI: u32>(smalls: &[Kind], large: Kind) -> Option<u32>
-    requires level { IsLevel SLI }
-    requires classes { AllByRecursion (HasClass SLI) smalls.now }
-    requires few { length smalls.now ≤ most_kinds SLI }
+    requires smalls { AreTold SLI smalls.now }
     requires class { HasClass SLI large }
     ensures some { IfSome result (λ words. (words ≡ law.one_large_words SLI smalls.now large) × (words ≤ most_words SLI)) }
     ensures none { result ≡ None → most_words SLI < law.one_large_words SLI smalls.now large }

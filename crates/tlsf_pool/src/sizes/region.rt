@@ -1,8 +1,9 @@
-ghost use Rattle.std.specs.Prelude.{◌≡◌, ◌≤◌, ◌↔◌, length, IfSome, IsTrue, None};
+ghost use Rattle.std.specs.Prelude.{◌≡◌, ◌↔◌, IfSome, IsTrue, None};
 ghost use Rattle.std.specs.List.{AllByRecursion};
 ghost use Rattle.tlsf_class.specs.Classes.{IsLevel};
 ghost use Rattle.tlsf_pool.specs.laws.FixedSize as law;
 ghost use Rattle.tlsf_pool.specs.laws.Kinds.{HasClass};
+ghost use Rattle.tlsf_pool.specs.sizes.Limits.{AreRows};
 ghost use Rattle.tlsf_pool.specs.laws.MixedSizes;
 ghost use Rattle.tlsf_pool.specs.sizes.Splits.{HasWords};
 
@@ -48,8 +49,7 @@ fn have_classes<const SLI: u32>(kinds: &[Kind]) -> bool
 
 /// The words of the region of a pool for a table; None where no region has that many.
 pub(crate) fn region_words<const SLI: u32>(kinds: &[Kind]) -> Option<u32>
-    requires level { IsLevel SLI }
-    requires few { length kinds.now ≤ 64 }
+    requires { AreRows SLI kinds.now }
     ensures some { IfSome result (λ words. HasWords SLI kinds.now × (words ≡ law.fixed_kinds_words SLI kinds.now)) }
     ensures none { result ≡ None → ¬ (HasWords SLI kinds.now) }
 {

@@ -1,11 +1,10 @@
-ghost use Rattle.std.specs.Prelude.{◌≡◌, ◌≤◌, ◌*◌, ◌+◌, ◌-◌, ◌^◌, length};
-ghost use Rattle.std.specs.List.{AllByRecursion};
+ghost use Rattle.std.specs.Prelude.{◌≡◌, ◌≤◌, ◌*◌, ◌+◌, ◌-◌, ◌^◌};
 ghost use Rattle.tlsf_heap.specs.Blocks;
 ghost use Rattle.tlsf_pool.specs.laws.Room;
 ghost use Rattle.tlsf_pool.specs.laws.Kinds;
 ghost use Rattle.tlsf_class.specs.Classes.{IsLevel, most_words};
 ghost use Rattle.tlsf_pool.specs.laws.Kinds.{count_in, table_words, HasClass};
-ghost use Rattle.tlsf_pool.specs.sizes.Limits.{most_kinds};
+ghost use Rattle.tlsf_pool.specs.sizes.Limits.{AreTold, most_kinds};
 
 use crate::kind::Kind;
 use tlsf_class::{low, most_words, search_of};
@@ -45,9 +44,7 @@ pub(crate) struct Totals {
 
 /// The totals of a table of kinds.
 pub(crate) fn totals_of<const SLI: u32>(kinds: &[Kind]) -> Totals
-    requires level { IsLevel SLI }
-    requires classes { AllByRecursion (HasClass SLI) kinds.now }
-    requires few { length kinds.now ≤ most_kinds SLI }
+    requires { AreTold SLI kinds.now }
     ensures count { result.count ≡ count_in kinds.now }
     ensures words { result.words ≡ table_words kinds.now }
     ensures small_count { result.count ≤ most_kinds SLI * 2 ^ 32 }
@@ -98,9 +95,7 @@ fn are_fours(kinds: &[Kind]) -> bool
 /// let words = kinds_words::<4>(&[Kind { most: 100, len: 512 }]);   // 13,631
 /// ```
 pub fn kinds_words<const SLI: u32>(kinds: &[Kind]) -> u64
-    requires level { IsLevel SLI }
-    requires classes { AllByRecursion (HasClass SLI) kinds.now }
-    requires few { length kinds.now ≤ most_kinds SLI }
+    requires { AreTold SLI kinds.now }
     ensures { result ≡ Kinds.kinds_words SLI kinds.now }
 {
     let totals = totals_of::<SLI>(kinds);

@@ -1,8 +1,8 @@
 ghost use Rattle.std.specs.Prelude.{◌≡◌, ◌≤◌, ◌<◌, ◌+◌, ◌^◌, ℕ, List, length, drop, IfSome, None};
-ghost use Rattle.tlsf_class.specs.Classes.{IsLevel};
 ghost use Rattle.tlsf_pool.specs.sizes.Cheapest as found;
 ghost use Rattle.tlsf_pool.specs.sizes.Cheapest.{AreBest, AreSmall, IsBest};
 ghost use Rattle.tlsf_pool.specs.sizes.Rising.{HasNoHeaps, Rises};
+ghost use Rattle.tlsf_pool.specs.sizes.Limits.{AreRows, MaySplit};
 ghost use Rattle.tlsf_pool.specs.sizes.Splits.{CutAlike, HasNoCut, IsLeast};
 ghost use Rattle.tlsf_pool.specs.declared.kind.Kind as shown;
 ghost use Rattle.tlsf_pool.specs.declared.sizes.split.Split as cut;
@@ -67,9 +67,8 @@ fn with_first(len: usize, words: Option<u32>, rest: Option<Split>) -> Option<Spl
 // The best split of these kinds into at most one heap more than `heaps`. It comes of the best ones into at most `heaps` of the
 // kinds that are left after one of them, after two and so on.
 fn best_of<const SLI: u32>(kinds: &[Kind], rests: &[Option<Split>], heaps: usize) -> Option<Split>
-    requires level { IsLevel SLI }
+    requires rows { AreRows SLI kinds.now }
     requires some { 0 < length kinds.now }
-    requires few { length kinds.now ≤ 64 }
     requires heaps { heaps ≤ 7 }
     requires behind { length rests.now ≡ length kinds.now }
     requires best { AreBest SLI heaps (drop 1 kinds.now) rests.now }
@@ -87,8 +86,7 @@ fn best_of<const SLI: u32>(kinds: &[Kind], rests: &[Option<Split>], heaps: usize
 
 // Allows one heap more to the best split of the kinds that are left after each number of them.
 fn allow_one_more<const SLI: u32>(kinds: &[Kind], row: &mut [Option<Split>], heaps: usize)
-    requires level { IsLevel SLI }
-    requires few { length kinds.now ≤ 64 }
+    requires rows { AreRows SLI kinds.now }
     requires heaps { heaps ≤ 7 }
     requires behind { length row.old ≡ length kinds.now + 1 }
     requires best { AreBest SLI heaps kinds.now row.old }
@@ -112,8 +110,7 @@ fn begin<const SLI: u32>(kinds: &[Kind], row: &mut [Option<Split>])
 
 // The best split of the kinds into at most this many heaps, found in a row of one cell more than there are kinds.
 fn best_in<const SLI: u32>(kinds: &[Kind], row: &mut [Option<Split>], most: usize) -> Option<Split>
-    requires level { IsLevel SLI }
-    requires few { length kinds.now ≤ 64 }
+    requires rows { AreRows SLI kinds.now }
     requires most { most ≤ 8 }
     requires behind { length row.old ≡ length kinds.now + 1 }
     ensures { IsBest SLI most kinds.now result }
@@ -136,9 +133,7 @@ fn best_in<const SLI: u32>(kinds: &[Kind], row: &mut [Option<Split>], most: usiz
 /// let split = cheapest_split::<4>(&kinds, 8);     // two heaps, of one kind each
 /// ```
 pub fn cheapest_split<const SLI: u32>(kinds: &[Kind], most: usize) -> Option<Split>
-    requires level { IsLevel SLI }
-    requires few { length kinds.now ≤ 64 }
-    requires heaps { most ≤ 8 }
+    requires { MaySplit SLI kinds.now most }
 
     // It is a way to cut the table, and no way has fewer words. Of those with as few it is the first.
     ensures least { IfSome result (IsLeast SLI most kinds.now) }
@@ -157,9 +152,7 @@ pub fn cheapest_split<const SLI: u32>(kinds: &[Kind], most: usize) -> Option<Spl
 /// let none = rising_split::<4>(&kinds, 8);        // None
 /// ```
 pub fn rising_split<const SLI: u32>(kinds: &[Kind], most: usize) -> Option<Split>
-    requires level { IsLevel SLI }
-    requires few { length kinds.now ≤ 64 }
-    requires heaps { most ≤ 8 }
+    requires { MaySplit SLI kinds.now most }
     ensures least { IfSome result (IsLeast SLI most kinds.now) }
     ensures rises { IfSome result (λ split. Rises kinds.now) }
     ensures none { result ≡ None → HasNoHeaps SLI most kinds.now }

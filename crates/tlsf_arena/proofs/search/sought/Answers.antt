@@ -15,9 +15,9 @@ halves-preserved c =
     elim c.if-not-lies_before.branch [
       | then-not-lies_before w ↦ let off : c.lies_before.result ≡ false = first_of (cc, search rules) in
           subst left (sym w.at-is)
-          (higher start c.halves.compared.count next c.args.units c.args.unit b p c.halves.at c.halves.count g c.halves.invariant c.halves-test.true c.lies_before.ensures.counted c.requires.unit c.grains_before.ensures.bytes
+          (higher start c.halves.compared.count next c.args.units c.args.unit b p c.halves.at c.halves.count g c.halves.invariant c.halves-test.true c.lies_before.ensures.counted c.requires.units.unit c.grains_before.ensures.bytes
           (not_before c.lies_before.result p (b + 16 * g) c.lies_before.ensures.order off))
       | else-not-lies_before w ↦ let on : c.lies_before.result ≡ true = first_of (cc, search rules) in
           subst left (sym w.at-is)
-          (lower start c.halves.compared.count next c.args.units c.args.unit b p c.halves.at c.halves.count g c.halves.invariant c.halves-test.true c.lies_before.ensures.counted c.requires.unit c.grains_before.ensures.bytes (c.lies_before.ensures.order.0 on))
+          (lower start c.halves.compared.count next c.args.units c.args.unit b p c.halves.at c.halves.count g c.halves.invariant c.halves-test.true c.lies_before.ensures.counted c.requires.units.unit c.grains_before.ensures.bytes (c.lies_before.ensures.order.0 on))
     ]

@@ -1,7 +1,6 @@
 -- Several heaps stay heaps for the parts of a table, whichever of them a call changes.
-use Rattle.tlsf_pool.proofs.Common.{◌≡◌, ◌≢◌, ℕ, zero, suc, ◌+◌, ◌-◌, ◌<◌, ◌≤◌, ◌↔◌, ◌&&◌, Bool, true, false, cond, List, [], ◌∷◌, length, get_or, set, nat_le, nat_lt, Option, Some, None, Result, Ok, Err, refl, sym, ap, ◌∙◌, subst, inl, inr, arith, AllByRecursion, IfSome, IsOk, IsSomeAnd, OnErr, OnOk, is_some, cases_lt, false≢true, le-ltb, lt-ltb, position_or_len_is, nat_tests, HeapState, payload_words_given, Release, Write, released, written, Name, PoolRefusal, SameLedger, IsTabled, TableState, row_of, table_allocated, fixed_size, ArePools, PoolsState, named_in, no_part, part_at, part_in}
+use Rattle.tlsf_pool.proofs.Common.{◌≡◌, ◌≢◌, ℕ, zero, suc, ◌+◌, ◌-◌, ◌<◌, ◌≤◌, ◌↔◌, ◌&&◌, Bool, true, false, cond, List, [], ◌∷◌, length, get_or, set, nat_le, nat_lt, Option, Some, None, Result, Ok, Err, refl, sym, ap, ◌∙◌, subst, inl, inr, arith, AllByRecursion, IfSome, IsOk, IsSomeAnd, OnOk, is_some, cases_lt, false≢true, le-ltb, lt-ltb, position_or_len_is, nat_tests, HeapState, payload_words_given, Name, PoolRefusal, IsTabled, TableState, row_of, ArePools, PoolsState, named_in, no_part, part_at, part_in}
 use Rattle.std.proofs.lemmas.List.Quantifiers.{position-Some}
-use Rattle.tlsf_heap.proofs.lemmas.calls.Outcomes.{by_allocated_words, ids}
 use Rattle.tlsf_pool.proofs.lemmas.pools.RowTotals.{this_row}
 
 -- ---- one of a list
@@ -60,18 +59,6 @@ kept sli p i t are is same = record {
   few = subst (λ (n : ℕ). n ≤ 8) (sym (length_set p.parts i t)) are.few;
 }
 
--- ---- a heap keeps its number
-
-pub given_number : (sli : ℕ) (old new : TableState) (len : ℕ) (answer : Result Name PoolRefusal) → OnOk answer (new.heap ≡ (table_allocated sli old.heap old.ledger len).heap) → OnErr answer (SameLedger old new) → new.heap.id ≡ old.heap.id
-given_number sli old new len (Ok name) ok err = ap (λ (h : HeapState). h.id) ok ∙ by_allocated_words sli (λ o. o.heap.id ≡ old.heap.id) old.heap (fixed_size sli old.ledger.kinds) len (λ why. refl) (λ s site fit. refl)
-given_number sli old new len (Err why) ok err = ap (λ (h : HeapState). h.id) err.heap
-
-pub taken_number : (old new : TableState) (name : Name) → new.heap ≡ (released old.heap name).heap → new.heap.id ≡ old.heap.id
-taken_number old new name is = ap (λ (h : HeapState). h.id) is ∙ ids 4 old.heap (Release name)
-
-pub written_number : (old new : TableState) (name : Name) (at : ℕ) (bytes : List ℕ) → new.heap ≡ (written old.heap name at bytes).heap → new.heap.id ≡ old.heap.id
-written_number old new name at bytes is = ap (λ (h : HeapState). h.id) is ∙ ids 4 old.heap (Write name at bytes)
-
 -- ---- an allocate by its answer
 
 pub on_ok : {A B : Type 0} (P : Type 0) (answer : Result Name PoolRefusal) → IsOk answer ↔ (A × B) → (A → P) → OnOk answer P
@@ -117,22 +104,6 @@ iff_part {A} P o i is both = subst (λ (o : Option ℕ). A ↔ IsSomeAnd o P) (s
 
 pub not_none : (o : Option ℕ) (i : ℕ) → o ≡ Some i → o ≢ None
 not_none o i is = λ e. cc
-
--- what one heap was and became is what the part of that number was and became
-module _ (p : PoolsState) (part : ℕ) (old new : TableState) (o : Option ℕ) (found : o ≡ Some part) (within : part < length p.parts) (is : old ≡ get_or p.parts part old) where
-  abbrev left : PoolsState
-  left = record { id = p.id; parts = set p.parts part new; extent = p.extent }
-
-  pub lift_iff : {A : Type 0} (P : TableState → Type 0) → A ↔ P old → A ↔ IsSomeAnd o (λ i. P (part_at p i))
-  lift_iff {A} P both = iff_part (λ i. P (part_at p i)) o part found (subst (λ (t : TableState). A ↔ P t) (is_part p part old within is) both)
-
-  pub lift_both : (R : TableState → TableState → Type 0) → R old new → IfSome o (λ i. R (part_at p i) (part_at left i))
-  lift_both R here =
-      if_part (λ i. R (part_at p i) (part_at left i)) o part found
-      (subst (λ (t : TableState). R (part_at p part) t) (new_part p part new within) (subst (λ (t : TableState). R t new) (is_part p part old within is) here))
-
-  pub lift_kept : (sli : ℕ) → ArePools sli p → IsTabled sli new → new.heap.id ≡ old.heap.id → ArePools sli left
-  lift_kept sli are table same = kept sli p part new are table (same ∙ ap (λ (t : TableState). t.heap.id) (is_part p part old within is))
 
 -- ---- the search for a part
 

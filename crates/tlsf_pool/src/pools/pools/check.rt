@@ -1,5 +1,5 @@
 ghost use Rattle.std.specs.Prelude.{◌≡◌, ◌<◌, ◌≤◌, None, length};
-ghost use Rattle.tlsf_pool.specs.pools.Parts.{ArePools, Checks, OnlyPart, Stay, part_at, table_of};
+ghost use Rattle.tlsf_pool.specs.pools.Parts.{AtPart, Checks};
 
 use super::Pools;
 use tlsf_heap::Checked;
@@ -15,12 +15,7 @@ impl<const SLI: u32> Pools<SLI> {
     /// ```
     pub fn check_blocks(&mut self, part: usize, from: u32, most: u32) -> Option<Checked>
         ensures none { length self.old.parts ≤ part → (result ≡ None) × (self.new ≡ self.old) }
-        ensures checks { part < length self.old.parts → Checks (part_at self.old part) (part_at self.new part) from most result }
-        ensures others { part < length self.old.parts → OnlyPart self.old self.new part }
-        ensures kinds { table_of self.new ≡ table_of self.old }
-        ensures stays { Stay self.old self.new }
-        ensures were_pools { ArePools SLI self.old }
-        ensures pools { ArePools SLI self.new }
+        ensures checks { AtPart SLI self.old self.new part (λ old new. part < length self.old.parts → Checks old new from most result) }
     {
         if part >= self.parts.len() {
             return None;

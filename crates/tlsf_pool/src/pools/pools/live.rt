@@ -1,6 +1,6 @@
-ghost use Rattle.std.specs.Prelude.{◌≡◌, None, false, IfSome};
+ghost use Rattle.std.specs.Prelude.{◌≡◌, None, false};
 ghost use Rattle.tlsf_pool.specs.pools.Parts as cut;
-ghost use Rattle.tlsf_pool.specs.pools.Parts.{ArePools, AsksLive, OnlyPart, Stay, part_at, table_of};
+ghost use Rattle.tlsf_pool.specs.pools.Parts.{AsksLive, OnPart};
 
 use super::{Pools, part_named};
 use tlsf_heap::Name;
@@ -15,13 +15,8 @@ impl<const SLI: u32> Pools<SLI> {
     /// pools.is_live(name) == false
     /// ```
     pub fn is_live(&mut self, name: Name) -> bool
-        ensures asks { IfSome (cut.part_named self.old name) (λ i. AsksLive (part_at self.old i) (part_at self.new i) name result) }
-        ensures others { IfSome (cut.part_named self.old name) (OnlyPart self.old self.new) }
+        ensures asks { OnPart SLI self.old self.new (cut.part_named self.old name) (λ old new. AsksLive old new name result) }
         ensures foreign { cut.part_named self.old name ≡ None → (result ≡ false) × (self.new ≡ self.old) }
-        ensures kinds { table_of self.new ≡ table_of self.old }
-        ensures stays { Stay self.old self.new }
-        ensures were_pools { ArePools SLI self.old }
-        ensures pools { ArePools SLI self.new }
     {
         let Some(part) = part_named(&self.parts, self.id, name) else {
             return false;

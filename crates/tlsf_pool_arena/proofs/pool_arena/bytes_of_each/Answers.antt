@@ -13,5 +13,5 @@ pub overflow_mul-result : goal.overflow_mul-result
 overflow_mul-result g c =
     let units : ℕ = c.max-units.result in
     let size : c.low.result ≡ sure g.row.SLI units = c.low.ensures ∙ sym (ap (λ o. option_map_or (low g.row.SLI) o 0) c.search_of.ensures) in
-    let most : sure g.row.SLI units ≤ most_words g.row.SLI = sure_most g.row.SLI c.requires.level units (omega (arith, c.max-units.ensures, c.requires.class)) in
-    omega (arith, few_bytes g.row.UNIT c.low.result c.requires.unit (omega (arith, size, most, most_words_any g.row.SLI)))
+    let most : sure g.row.SLI units ≤ most_words g.row.SLI = sure_most g.row.SLI c.requires.kind.0 units (omega (arith, c.max-units.ensures, c.requires.class)) in
+    omega (arith, few_bytes g.row.UNIT c.low.result c.requires.kind.1 (omega (arith, size, most, most_words_any g.row.SLI)))

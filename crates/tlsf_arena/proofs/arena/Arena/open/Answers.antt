@@ -14,7 +14,7 @@ invariant_of-result g c =
     let same = c.with_ptr-base.ensures.1 in
     let space = c.new-space.ensures in
     let lease = c.located-lease.ensures.0 in (
-      opens g.row.SLI u c.args.units c.args.id c.bytes_of.result c.in-Ok.heap.value.heap c.new-space.result.free c.requires.level c.requires.unit rooms.0 most (is ∙ opened.heap) c.bytes_of.ensures.grains
+      opens g.row.SLI u c.args.units c.args.id c.bytes_of.result c.in-Ok.heap.value.heap c.new-space.result.free c.requires.kind.0 c.requires.kind.1 rooms.0 most (is ∙ opened.heap) c.bytes_of.ensures.grains
           (space.2 ∙ ap (λ (m : ℕ). replicate (m / 16) true) (ap (λ m. m.size) same ∙ memory.0)),
       (space.1 ∙ ap (λ m. m.ptr) same ∙ sym c.with_ptr-base.ensures.0, (ap (λ l. l.alloc) lease ∙ memory.1, (ap (λ l. l.ptr) lease ∙ memory.2 ∙ sym c.with_ptr-base.ensures.0, ap (λ l. l.size) lease ∙ memory.3 ∙ c.bytes_of.ensures.bytes))),
       sym (ap (λ (h : HeapState). h.id) (is ∙ opened.heap)),

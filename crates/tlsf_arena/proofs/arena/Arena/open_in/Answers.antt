@@ -13,8 +13,8 @@ invariant_of-result g c =
     let most = few_units g.row.SLI c.args.units (λ no. let e = opened.bad_size.1 no in cc) in
     let same = c.with_ptr-base.ensures.1 in
     let space = c.new-space.ensures in
-    let long : c.args.memory.size / 16 ≡ u / 16 * c.args.units = omega (arith, c.requires.size, grains_of u c.args.units c.requires.unit) in (
-      opens g.row.SLI u c.args.units c.args.id c.args.memory.size c.in-Ok-new.heap.value.heap c.new-space.result.free c.requires.level c.requires.unit rooms.0 most (is ∙ opened.heap) long
+    let long : c.args.memory.size / 16 ≡ u / 16 * c.args.units = omega (arith, c.requires.size, grains_of u c.args.units c.requires.kind.1) in (
+      opens g.row.SLI u c.args.units c.args.id c.args.memory.size c.in-Ok-new.heap.value.heap c.new-space.result.free c.requires.kind.0 c.requires.kind.1 rooms.0 most (is ∙ opened.heap) long
           (space.2 ∙ ap (λ (m : ℕ). replicate (m / 16) true) (ap (λ m. m.size) same)),
       (space.1 ∙ ap (λ m. m.ptr) same ∙ sym c.with_ptr-base.ensures.0, tt),
       sym (ap (λ (h : HeapState). h.id) (is ∙ opened.heap)),

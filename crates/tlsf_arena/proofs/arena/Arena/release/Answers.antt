@@ -1,14 +1,5 @@
-use Rattle.tlsf_arena.proofs.Holding.{stays_released}
 use Rattle.tlsf_arena.proofs.SameBlock.{same_block}
 use Rattle.tlsf_arena.proofs.arena.Arena.release.Goals as goal
 
-pub returns-in-Ok-clause-others : goal.returns-in-Ok-clause-others
-returns-in-Ok-clause-others g c = λ other units apart holds.
-    let e = c.give.ensures in stays_released c.args.self.now.heap c.give.new.self.heap other c.args.block.name units e.lawful apart holds e.heap
-
-pub returns-in-Err-clause-others : goal.returns-in-Err-clause-others
-returns-in-Err-clause-others g c = λ other units apart holds.
-    let e = c.give.ensures in stays_released c.args.self.now.heap c.give.new.self.heap other c.args.block.name units e.lawful apart holds e.heap
-
-pub returns-in-Err-clause-err : goal.returns-in-Err-clause-err
-returns-in-Err-clause-err g c = (c.in-Err.ensures.err.0, same_block g.row.UNIT c.in-Err.piece c.in-Err.right c.args.block _ _ c.in-Err.ensures.err.1 c.in-Err.ensures.err.2)
+pub returns-in-Err-clause-back : goal.returns-in-Err-clause-back
+returns-in-Err-clause-back g c = same_block g.row.UNIT c.in-Err.piece c.in-Err.right c.args.block _ _ c.in-Err.ensures.back.0 c.in-Err.ensures.back.1

@@ -11,7 +11,7 @@ Done part at r left p = LooksInPools p.pools left.pools part at r
 pub returns-clause-looks : goal.returns-clause-looks
 returns-clause-looks c = elim c.match-self.branch [
   | in-Four w ↦ let e = w.block_at.ensures in carried (Done c.args.part c.args.at) _ _ _ _ _ _ w.result-is (ap (λ (i : Inside). pools_shown i.of_level) w.self-inside-is)
-      (sym (ap (λ (o : PoolsOfLevel). pools_shown o) w.in-Four.is) ∙ c.self.view_is) (record { none = e.none; looks = e.looks; others = e.others; kinds = e.kinds })
+      (sym (ap (λ (o : PoolsOfLevel). pools_shown o) w.in-Four.is) ∙ c.self.view_is) (record { none = e.none; looks = e.looks.here; others = e.looks.others; kinds = e.looks.kinds })
   | in-Five w ↦ let e = w.block_at-in-Five.ensures in carried (Done c.args.part c.args.at) _ _ _ _ _ _ w.result-is (ap (λ (i : Inside). pools_shown i.of_level) w.self-inside-is)
-      (sym (ap (λ (o : PoolsOfLevel). pools_shown o) w.in-Five.is) ∙ c.self.view_is) (record { none = e.none; looks = e.looks; others = e.others; kinds = e.kinds })
+      (sym (ap (λ (o : PoolsOfLevel). pools_shown o) w.in-Five.is) ∙ c.self.view_is) (record { none = e.none; looks = e.looks.here; others = e.looks.others; kinds = e.looks.kinds })
 ]

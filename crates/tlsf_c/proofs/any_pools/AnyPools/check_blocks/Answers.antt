@@ -11,7 +11,7 @@ Done part from most r left p = ChecksInPools p.pools left.pools part from most r
 pub returns-clause-checks : goal.returns-clause-checks
 returns-clause-checks c = elim c.match-self.branch [
   | in-Four w ↦ let e = w.check_blocks.ensures in carried (Done c.args.part c.args.from c.args.most) _ _ _ _ _ _ w.result-is (ap (λ (i : Inside). pools_shown i.of_level) w.self-inside-is)
-      (sym (ap (λ (o : PoolsOfLevel). pools_shown o) w.in-Four.is) ∙ c.self.view_is) (record { none = e.none; checks = e.checks; others = e.others; kinds = e.kinds })
+      (sym (ap (λ (o : PoolsOfLevel). pools_shown o) w.in-Four.is) ∙ c.self.view_is) (record { none = e.none; checks = e.checks.here; others = e.checks.others; kinds = e.checks.kinds })
   | in-Five w ↦ let e = w.check_blocks-in-Five.ensures in carried (Done c.args.part c.args.from c.args.most) _ _ _ _ _ _ w.result-is (ap (λ (i : Inside). pools_shown i.of_level) w.self-inside-is)
-      (sym (ap (λ (o : PoolsOfLevel). pools_shown o) w.in-Five.is) ∙ c.self.view_is) (record { none = e.none; checks = e.checks; others = e.others; kinds = e.kinds })
+      (sym (ap (λ (o : PoolsOfLevel). pools_shown o) w.in-Five.is) ∙ c.self.view_is) (record { none = e.none; checks = e.checks.here; others = e.checks.others; kinds = e.checks.kinds })
 ]

@@ -11,7 +11,7 @@ Done part r left p = ReportsInPools p.level p.pools left.pools part r
 pub returns-clause-reports : goal.returns-clause-reports
 returns-clause-reports c = elim c.match-self.branch [
   | in-Four w ↦ let e = w.report.ensures in carried (Done c.args.part) _ _ _ _ _ _ w.result-is (ap (λ (i : Inside). pools_shown i.of_level) w.self-inside-is)
-      (sym (ap (λ (o : PoolsOfLevel). pools_shown o) w.in-Four.is) ∙ c.self.view_is) (record { none = e.none; reports = e.reports; others = e.others; unchanged = e.unchanged; kinds = e.kinds })
+      (sym (ap (λ (o : PoolsOfLevel). pools_shown o) w.in-Four.is) ∙ c.self.view_is) (record { none = e.none; reports = e.reports.here; others = e.reports.others; unchanged = e.unchanged; kinds = e.reports.kinds })
   | in-Five w ↦ let e = w.report-in-Five.ensures in carried (Done c.args.part) _ _ _ _ _ _ w.result-is (ap (λ (i : Inside). pools_shown i.of_level) w.self-inside-is)
-      (sym (ap (λ (o : PoolsOfLevel). pools_shown o) w.in-Five.is) ∙ c.self.view_is) (record { none = e.none; reports = e.reports; others = e.others; unchanged = e.unchanged; kinds = e.kinds })
+      (sym (ap (λ (o : PoolsOfLevel). pools_shown o) w.in-Five.is) ∙ c.self.view_is) (record { none = e.none; reports = e.reports.here; others = e.reports.others; unchanged = e.unchanged; kinds = e.reports.kinds })
 ]

@@ -10,7 +10,7 @@ Done name at bytes r left p = WritesInPools p.pools left.pools name at bytes r
 pub returns-clause-writes : goal.returns-clause-writes
 returns-clause-writes c = elim c.match-self.branch [
   | in-Four w ↦ let e = w.write.ensures in carried (Done c.args.name c.args.at c.args.bytes.now) _ _ _ _ _ _ w.result-is (ap (λ (i : Inside). pools_shown i.of_level) w.self-inside-is)
-      (sym (ap (λ (o : PoolsOfLevel). pools_shown o) w.in-Four.is) ∙ c.self.view_is) (record { writes = e.writes; others = e.others; foreign = e.foreign; kinds = e.kinds })
+      (sym (ap (λ (o : PoolsOfLevel). pools_shown o) w.in-Four.is) ∙ c.self.view_is) (record { writes = e.writes.here; others = e.writes.others; foreign = e.foreign; kinds = e.writes.kinds })
   | in-Five w ↦ let e = w.write-in-Five.ensures in carried (Done c.args.name c.args.at c.args.bytes.now) _ _ _ _ _ _ w.result-is (ap (λ (i : Inside). pools_shown i.of_level) w.self-inside-is)
-      (sym (ap (λ (o : PoolsOfLevel). pools_shown o) w.in-Five.is) ∙ c.self.view_is) (record { writes = e.writes; others = e.others; foreign = e.foreign; kinds = e.kinds })
+      (sym (ap (λ (o : PoolsOfLevel). pools_shown o) w.in-Five.is) ∙ c.self.view_is) (record { writes = e.writes.here; others = e.writes.others; foreign = e.foreign; kinds = e.writes.kinds })
 ]

@@ -15,8 +15,12 @@ returns-clause-gone g c =
     gone c.args.self.now _ c.args.name c.release.result is.lawful (c.release.ensures.releases.answer_is ∙ ap (λ (o : Offsets). (released o.heap c.args.name).answer) c.self.view_is)
     (c.release.ensures.releases.heap ∙ ap (λ (o : Offsets). (released o.heap c.args.name).heap) c.self.view_is)
 
-pub returns-clause-lawful : goal.returns-clause-lawful
-returns-clause-lawful g c =
+pub returns-clause-goes_on : goal.returns-clause-goes_on
+returns-clause-goes_on g c =
     let is : IsOffsets g.row.SLI c.args.self.now = search rules in
-    stays g.row.SLI c.args.self.now _ is (ap (λ (o : Offsets). o.unit) c.self.view_is)
-    (ap (λ (h : HeapState). h.words) c.release.ensures.releases.heap ∙ words_released c.self.inside.heap.heap c.args.name ∙ ap (λ (o : Offsets). o.heap.words) c.self.view_is) c.release.ensures.frame.keeps.lawful
+    record {
+      unit = ap (λ (o : Offsets). o.unit) c.self.view_is;
+      stays = c.release.ensures.keeps.stays ∙ ap (λ (o : Offsets). o.extents) c.self.view_is;
+      was_lawful = is;
+      lawful = stays g.row.SLI c.args.self.now _ is (ap (λ (o : Offsets). o.unit) c.self.view_is) (ap (λ (h : HeapState). h.words) c.release.ensures.releases.heap ∙ words_released c.self.inside.heap.heap c.args.name ∙ ap (λ (o : Offsets). o.heap.words) c.self.view_is) c.release.ensures.keeps.lawful;
+    }

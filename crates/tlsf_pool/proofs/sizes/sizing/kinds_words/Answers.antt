@@ -5,9 +5,6 @@ use Rattle.tlsf_pool.proofs.sizes.sizing.kinds_words.Goals as goal
 abbrev none : Kind
 none = record { most = 0; len = 0 }
 
-pub totals_of-totals-requires : goal.totals_of-totals-requires
-totals_of-totals-requires g c = record { level = c.requires.level; classes = c.requires.classes; few = c.requires.few }
-
 pub overflow_mul-words : goal.overflow_mul-words
 overflow_mul-words g c = omega (arith, c.totals_of-totals.ensures.small_count, (few_kinds g.row.SLI c.requires.level).1)
 

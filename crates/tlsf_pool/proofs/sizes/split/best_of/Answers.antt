@@ -5,6 +5,6 @@ use Rattle.tlsf_pool.proofs.sizes.split.best_of.Goals as goal
 pub loop-index-preserved : goal.loop-index-preserved
 loop-index-preserved g c =
     let are = are_words g.row.SLI (take (c.loop-index.index + 1) c.args.kinds.now) c.region_words-words.result c.region_words-words.ensures.some c.region_words-words.ensures.none in
-    let both = both_longer g.row.SLI c.args.heaps c.loop-index.index c.requires.level c.args.kinds.now c.args.rests.now c.loop-index.best c.region_words-words.result
+    let both = both_longer g.row.SLI c.args.heaps c.loop-index.index c.requires.rows.level c.args.kinds.now c.args.rests.now c.loop-index.best c.region_words-words.result
     c.requires.heaps (omega (arith, c.requires.behind, c.loop-index-test.true)) c.loop-index-test.true are c.requires.best c.loop-index.invariant.best c.loop-index.invariant.small in
     rw (c.cheaper-best.ensures, c.with_first.ensures.value) (record { best = both.0; small = both.1 })

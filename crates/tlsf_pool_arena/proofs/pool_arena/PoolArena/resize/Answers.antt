@@ -10,18 +10,18 @@ if_ok P Q (Err e) more is = is
 
 pub invariant_of-self : goal.invariant_of-self
 invariant_of-self g c = (
-  refit g.row.SLI g.row.UNIT _ c.self.invariant.0 c.self.inside.bytes c.self.invariant.1 c.args.block.name _ c.resize.new.self.region c.resize.new.self.book _ _ _ _ c.resize.ensures.heap,
+  refit g.row.SLI g.row.UNIT _ c.self.invariant.0 c.self.inside.bytes c.self.invariant.1 c.args.block.name _ c.resize.new.self.region c.resize.new.self.book _ _ _ _ c.resize.ensures.resizes.heap,
   c.self.invariant.1,
 )
 
 pub returns-then-self-len-clause-ok : goal.returns-then-self-len-clause-ok
 returns-then-self-len-clause-ok g c =
-    let when = resize_ok g.row.SLI g.row.UNIT _ c.self.invariant.0 c.self.inside.bytes c.self.invariant.1 c.resize.result c.args.block.name (units_of c.args.block.right.loan) c.resize.ensures.live c.resize.ensures.answer in
+    let when = resize_ok g.row.SLI g.row.UNIT _ c.self.invariant.0 c.self.inside.bytes c.self.invariant.1 c.resize.result c.args.block.name (units_of c.args.block.right.loan) c.resize.ensures.resizes.on.live c.resize.ensures.resizes.answer_is in
     subst (λ (p : PoolArenaState). IsOk c.resize.result ↔ ((c.args.len ≤ p.longest) × ¬ (p.heap.tick ≡ last_tick))) c.self.view_is ((λ ok. (c.if-self-len.true, when.0 ok)), (λ within. when.1 within.1))
 
 pub returns-then-self-len-clause-worn : goal.returns-then-self-len-clause-worn
 returns-then-self-len-clause-worn g c = λ short.
-    resize_worn g.row.SLI g.row.UNIT _ c.self.invariant.0 c.self.inside.bytes c.self.invariant.1 c.resize.result c.args.block.name (units_of c.args.block.right.loan) c.resize.ensures.live c.resize.ensures.answer
+    resize_worn g.row.SLI g.row.UNIT _ c.self.invariant.0 c.self.inside.bytes c.self.invariant.1 c.resize.result c.args.block.name (units_of c.args.block.right.loan) c.resize.ensures.resizes.on.live c.resize.ensures.resizes.answer_is
 
 pub returns-then-self-len-clause-block : goal.returns-then-self-len-clause-block
 returns-then-self-len-clause-block g c =

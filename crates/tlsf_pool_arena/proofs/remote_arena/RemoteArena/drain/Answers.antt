@@ -9,7 +9,7 @@ loop-at-init g c = none_drained c.args.self.now
 pub loop-at-preserved : goal.loop-at-preserved
 loop-at-preserved g c =
     let e = c.take_home-home.ensures in
-    one_drained c.args.self.now c.loop-at.self c.take_home-home.new.self c.loop-at.at c.loop-at.invariant e.own e.plan e.touches e.compared e.steps e.stays c.take_home-home.result e.home e.none e.looks e.worn
+    one_drained c.args.self.now c.loop-at.self c.take_home-home.new.self c.loop-at.at c.loop-at.invariant e.goes_on c.take_home-home.result e.home e.none e.looks e.worn
 
 pub returns-clause-idle : goal.returns-clause-idle
 returns-clause-idle g c =

@@ -12,13 +12,13 @@ invariant_of-self-2 g c =
     let now = c.send_out-parcel.ensures.away in
     let at = c.read-at.result in
     let held = c.held.ensures in
-    let left = lent_idle a.count c.allocate.new.self.most a.arena.held c.held.result at a.idle.slots (away_by a.owner) c.self.invariant.3 (c.self.invariant.2 ∙ sym e.plan.most) (held.held ∙ e.held) held.few c.read-at.ensures.slot (away_by c.send_out-parcel.new.self) parcel now in (
-      lent a.arena.region c.allocate.new.self.region a.arena.book c.allocate.new.self.book (away_by a.owner) (away_by c.send_out-parcel.new.self) at c.self.invariant.0 e.plan.region e.plan.book parcel now (e.block.0, e.block.1),
+    let left = lent_idle a.count c.allocate.new.self.most a.arena.held c.held.result at a.idle.slots (away_by a.owner) c.self.invariant.3 (c.self.invariant.2 ∙ sym e.keeps.plan.most) (held.held ∙ e.held) held.few c.read-at.ensures.slot (away_by c.send_out-parcel.new.self) parcel now in (
+      lent a.arena.region c.allocate.new.self.region a.arena.book c.allocate.new.self.book (away_by a.owner) (away_by c.send_out-parcel.new.self) at c.self.invariant.0 e.keeps.plan.region e.keeps.plan.book parcel now (e.block.0, e.block.1),
       c.self.invariant.1 ∙ sym (ap (λ (l : List (Option (Parcel g.row.UNIT))). length l) now ∙ length-set (away_by a.owner) at (Some parcel)),
-      c.self.invariant.2 ∙ sym e.plan.most,
+      c.self.invariant.2 ∙ sym e.keeps.plan.most,
       subst (λ (l : List ℕ). AreIdle g.row.UNIT a.count (a.count - c.allocate.new.self.held) l (away_by c.send_out-parcel.new.self)) (sym c.read-at.ensures.slots)
           (as_many a.count (a.count - c.held.result) (a.count - c.allocate.new.self.held) a.idle.slots (away_by c.send_out-parcel.new.self) (ap (λ (j : ℕ). a.count - j) held.held) left),
-      omega (arith, held.held, held.few, e.plan.most, c.self.invariant.2),
+      omega (arith, held.held, held.few, e.keeps.plan.most, c.self.invariant.2),
     )
 
 pub send_out-parcel-requires-clause-idle : goal.send_out-parcel-requires-clause-idle
@@ -26,14 +26,14 @@ send_out-parcel-requires-clause-idle g c =
     let a = c.self.inside in
     let e = c.in_ok-block.ensures in
     let held = c.held.ensures in
-    lent_from a.count c.allocate.new.self.most a.arena.held c.held.result c.read-at.result a.idle.slots (away_by a.owner) c.self.invariant.3 (c.self.invariant.2 ∙ sym e.plan.most) (held.held ∙ e.held) held.few c.read-at.ensures.slot
+    lent_from a.count c.allocate.new.self.most a.arena.held c.held.result c.read-at.result a.idle.slots (away_by a.owner) c.self.invariant.3 (c.self.invariant.2 ∙ sym e.keeps.plan.most) (held.held ∙ e.held) held.few c.read-at.ensures.slot
 
 pub returns-clause-away : goal.returns-clause-away
 returns-clause-away g c =
     let a = c.self.inside in
     let e = c.in_ok-block.ensures in
     let held = c.held.ensures in
-    let free = lent_from a.count c.allocate.new.self.most a.arena.held c.held.result c.read-at.result a.idle.slots (away_by a.owner) c.self.invariant.3 (c.self.invariant.2 ∙ sym e.plan.most) (held.held ∙ e.held) held.few c.read-at.ensures.slot in
+    let free = lent_from a.count c.allocate.new.self.most a.arena.held c.held.result c.read-at.result a.idle.slots (away_by a.owner) c.self.invariant.3 (c.self.invariant.2 ∙ sym e.keeps.plan.most) (held.held ∙ e.held) held.few c.read-at.ensures.slot in
     let same : away_by a.owner ≡ c.args.self.now.away = ap (λ (v : RemoteState g.row.UNIT). v.away) c.self.view_is in
     (cc (free, same, c.send_out-parcel.ensures.slot), cc (same, c.send_out-parcel.ensures.away, c.send_out-parcel.ensures.slot, c.send_out-parcel.ensures.value))
 
@@ -42,9 +42,9 @@ returns-clause-slot g c =
     let a = c.self.inside in
     let e = c.in_ok-block.ensures in
     let held = c.held.ensures in
-    let free = lent_from a.count c.allocate.new.self.most a.arena.held c.held.result c.read-at.result a.idle.slots (away_by a.owner) c.self.invariant.3 (c.self.invariant.2 ∙ sym e.plan.most) (held.held ∙ e.held) held.few c.read-at.ensures.slot in
+    let free = lent_from a.count c.allocate.new.self.most a.arena.held c.held.result c.read-at.result a.idle.slots (away_by a.owner) c.self.invariant.3 (c.self.invariant.2 ∙ sym e.keeps.plan.most) (held.held ∙ e.held) held.few c.read-at.ensures.slot in
     let there = is_there c.read-at.result (away_by a.owner) free in
-    omega (arith, there, c.send_out-parcel.ensures.slot, c.self.invariant.1, c.self.invariant.2, e.plan.most)
+    omega (arith, there, c.send_out-parcel.ensures.slot, c.self.invariant.1, c.self.invariant.2, e.keeps.plan.most)
 
 pub returns-clause-idle : goal.returns-clause-idle
 returns-clause-idle g c =
@@ -54,9 +54,9 @@ returns-clause-idle g c =
     let now = c.send_out-parcel.ensures.away in
     let held = c.held.ensures in
     let at = c.read-at.result in
-    let left = lent_idle a.count c.allocate.new.self.most a.arena.held c.held.result at a.idle.slots (away_by a.owner) c.self.invariant.3 (c.self.invariant.2 ∙ sym e.plan.most) (held.held ∙ e.held) held.few c.read-at.ensures.slot (away_by c.send_out-parcel.new.self) parcel now in
+    let left = lent_idle a.count c.allocate.new.self.most a.arena.held c.held.result at a.idle.slots (away_by a.owner) c.self.invariant.3 (c.self.invariant.2 ∙ sym e.keeps.plan.most) (held.held ∙ e.held) held.few c.read-at.ensures.slot (away_by c.send_out-parcel.new.self) parcel now in
     let long = c.self.invariant.1 ∙ sym (ap (λ (l : List (Option (Parcel g.row.UNIT))). length l) now ∙ length-set (away_by a.owner) at (Some parcel)) in
-    let kept = kept_slots a.count c.allocate.new.self.most c.held.result a.idle.slots (away_by c.send_out-parcel.new.self) left long (c.self.invariant.2 ∙ sym e.plan.most) (omega (arith, held.few, e.plan.most, c.self.invariant.2)) in
+    let kept = kept_slots a.count c.allocate.new.self.most c.held.result a.idle.slots (away_by c.send_out-parcel.new.self) left long (c.self.invariant.2 ∙ sym e.keeps.plan.most) (omega (arith, held.few, e.keeps.plan.most, c.self.invariant.2)) in
     record { all = kept.0; idle = omega (arith, kept.1, held.held) }
 
 pub returns-clause-full : goal.returns-clause-full
@@ -86,7 +86,7 @@ returns-clause-last g c =
     let held = c.held.ensures in
     let at = c.read-at.result in
     ap (λ (v : RemoteState g.row.UNIT). v.idle) (sym c.self.view_is)
-    ∙ lent_last a.count c.allocate.new.self.most a.arena.held c.held.result at a.idle.slots (away_by a.owner) c.self.invariant.3 (c.self.invariant.2 ∙ sym e.plan.most) (held.held ∙ e.held) held.few c.read-at.ensures.slot
+    ∙ lent_last a.count c.allocate.new.self.most a.arena.held c.held.result at a.idle.slots (away_by a.owner) c.self.invariant.3 (c.self.invariant.2 ∙ sym e.keeps.plan.most) (held.held ∙ e.held) held.few c.read-at.ensures.slot
     ∙ ap (λ (j : ℕ). take (a.count - j) a.idle.slots ++ at ∷ []) held.held
     ∙ ap (λ (l : List ℕ). take (a.count - c.allocate.new.self.held) l ++ at ∷ []) (sym c.read-at.ensures.slots)
     ∙ ap (λ (j : ℕ). take (a.count - c.allocate.new.self.held) c.read-at.new.self.slots ++ j ∷ []) (sym c.send_out-parcel.ensures.slot)

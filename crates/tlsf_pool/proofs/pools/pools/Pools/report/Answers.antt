@@ -1,29 +1,15 @@
-use Rattle.tlsf_pool.proofs.Common.{◌≡◌, ◌<◌, length, ap, set, subst, ◌∙◌, arith, HeapState, PoolsState, rows_in, table_of, Stay, TableRows, TableState}
-use Rattle.tlsf_pool.proofs.lemmas.pools.Heaps.{is_part, kept}
-use Rattle.tlsf_pool.proofs.lemmas.pools.WholeTable.{all_stay, rows_kept}
+use Rattle.tlsf_pool.proofs.Common.{◌<◌, length, arith}
+use Rattle.tlsf_pool.specs.pools.Parts.{Reports}
+use Rattle.tlsf_pool.proofs.lemmas.pools.OnParts.{at_part, keeps_same, pools_kept}
 use Rattle.tlsf_pool.proofs.pools.pools.Pools.report.Goals as goal
 
 pub invariant_of-self : goal.invariant_of-self
 invariant_of-self g c =
-    let p : PoolsState = record { id = c.self.inside.id; parts = c.self.inside.parts.items; extent = record { address = c.self.inside.parts.ptr; capacity = c.self.inside.parts.cap } } in
-    let within : c.args.part < length p.parts = omega (arith, c.self.inside.parts.ok.0) in
-    kept g.row.SLI p c.args.part c.report.new.self c.self.invariant c.report.ensures.frame.keeps.is
-    (ap (λ (h : HeapState). h.id) c.report.ensures.frame.same.heap ∙ ap (λ (t : TableState). t.heap.id) (is_part p c.args.part c.index_mut.result.now within c.index_mut.ensures.value))
+    let within : c.args.part < length c.self.inside.parts.items = omega (arith, c.self.inside.parts.ok.0) in
+    pools_kept c.args.part c.self.invariant c.index_mut.ensures.value within (keeps_same c.report.ensures.keeps.is c.report.ensures.keeps.stays c.report.ensures.same)
 
-pub returns-clause-pools : goal.returns-clause-pools
-returns-clause-pools g c = invariant_of-self g c
-
-pub returns-clause-kinds : goal.returns-clause-kinds
-returns-clause-kinds g c =
-    let p : PoolsState = record { id = c.self.inside.id; parts = c.self.inside.parts.items; extent = record { address = c.self.inside.parts.ptr; capacity = c.self.inside.parts.cap } } in
-    let within : c.args.part < length p.parts = omega (arith, c.self.inside.parts.ok.0) in
-    subst (λ (q : PoolsState). rows_in (set p.parts c.args.part c.report.new.self) ≡ table_of q) c.self.view_is
-    (rows_kept p c.args.part c.index_mut.result.now c.report.new.self within c.index_mut.ensures.value (ap (λ (t : TableRows). t.kinds) c.report.ensures.frame.same.ledger))
-
-pub returns-clause-stays : goal.returns-clause-stays
-returns-clause-stays g c =
-    let p : PoolsState = record { id = c.self.inside.id; parts = c.self.inside.parts.items; extent = record { address = c.self.inside.parts.ptr; capacity = c.self.inside.parts.cap } } in
-    let within : c.args.part < length p.parts = omega (arith, c.self.inside.parts.ok.0) in
-    let e = c.report.ensures in
-    subst (λ (q : PoolsState). Stay q (record { id = p.id; parts = set p.parts c.args.part c.report.new.self; extent = p.extent })) c.self.view_is
-    (all_stay p c.args.part c.index_mut.result.now c.report.new.self within c.index_mut.ensures.value e.frame.keeps.stays (ap (λ (t : TableRows). t.extents) e.frame.same.ledger))
+pub returns-clause-reports : goal.returns-clause-reports
+returns-clause-reports g c =
+    let within : c.args.part < length c.self.inside.parts.items = omega (arith, c.self.inside.parts.ok.0) in
+    at_part c.args.part c.self.invariant c.index_mut.ensures.value within (keeps_same c.report.ensures.keeps.is c.report.ensures.keeps.stays c.report.ensures.same)
+    c.args.self.now c.self.view_is (λ old new. Reports g.row.SLI old new c.report.result) (record { reports = c.report.ensures.reports; held = c.report.ensures.tells.held; grant = c.report.ensures.tells.grant; same = c.report.ensures.same })

@@ -1,31 +1,15 @@
-use Rattle.tlsf_pool.proofs.Common.{◌≡◌, List, Some, sym, ap, ◌∙◌, set, subst, PoolsState, named_in, rows_in, table_of, Stay, TableRows, TableState}
-use Rattle.tlsf_pool.proofs.lemmas.pools.Heaps.{lift_kept, named_within, written_number}
-use Rattle.tlsf_pool.proofs.lemmas.pools.WholeTable.{all_stay, rows_kept}
+use Rattle.tlsf_pool.proofs.Common.{part_named}
+use Rattle.tlsf_pool.specs.pools.Parts.{Writes}
+use Rattle.tlsf_pool.proofs.lemmas.pools.OnParts.{keeps_written, named_part, on_part, pools_kept}
 use Rattle.tlsf_pool.proofs.pools.pools.Pools.write.Goals as goal
 
 pub invariant_of-self : goal.invariant_of-self
 invariant_of-self g c =
-    let p : PoolsState = record { id = c.self.inside.id; parts = c.self.inside.parts.items; extent = record { address = c.self.inside.parts.ptr; capacity = c.self.inside.parts.cap } } in
-    let found : named_in p.id p.parts c.args.name ≡ Some c.in-Some.part = sym (c.in-Some.ensures ∙ ap (λ (parts : List TableState). named_in p.id parts c.args.name) c.deref.ensures.value) in
-    let within = (named_within p.id p.parts c.args.name c.in-Some.part found).0 in
-    lift_kept p c.in-Some.part c.index_mut.result.now c.write.new.self (named_in p.id p.parts c.args.name) found within c.index_mut.ensures.value g.row.SLI c.self.invariant c.write.ensures.frame.keeps.is
-    (written_number c.index_mut.result.now c.write.new.self c.args.name c.args.at c.args.bytes.now c.write.ensures.writes.heap)
+    let which = named_part c.self.inside.id c.self.inside.parts.items _ c.args.name c.in-Some.part c.in-Some.ensures c.deref.ensures.value in
+    pools_kept c.in-Some.part c.self.invariant c.index_mut.ensures.value which.1 (keeps_written c.args.name c.args.at c.args.bytes.now c.write.ensures.keeps.is c.write.ensures.keeps.stays c.write.ensures.writes.heap c.write.ensures.ledger)
 
-pub returns-clause-pools : goal.returns-clause-pools
-returns-clause-pools g c = invariant_of-self g c
-
-pub returns-clause-kinds : goal.returns-clause-kinds
-returns-clause-kinds g c =
-    let p : PoolsState = record { id = c.self.inside.id; parts = c.self.inside.parts.items; extent = record { address = c.self.inside.parts.ptr; capacity = c.self.inside.parts.cap } } in
-    let found : named_in p.id p.parts c.args.name ≡ Some c.in-Some.part = sym (c.in-Some.ensures ∙ ap (λ (parts : List TableState). named_in p.id parts c.args.name) c.deref.ensures.value) in
-    subst (λ (q : PoolsState). rows_in (set p.parts c.in-Some.part c.write.new.self) ≡ table_of q) c.self.view_is
-    (rows_kept p c.in-Some.part c.index_mut.result.now c.write.new.self (named_within p.id p.parts c.args.name c.in-Some.part found).0 c.index_mut.ensures.value (ap (λ (t : TableRows). t.kinds) c.write.ensures.frame.ledger))
-
-pub returns-clause-stays : goal.returns-clause-stays
-returns-clause-stays g c =
-    let p : PoolsState = record { id = c.self.inside.id; parts = c.self.inside.parts.items; extent = record { address = c.self.inside.parts.ptr; capacity = c.self.inside.parts.cap } } in
-    let found : named_in p.id p.parts c.args.name ≡ Some c.in-Some.part = sym (c.in-Some.ensures ∙ ap (λ (parts : List TableState). named_in p.id parts c.args.name) c.deref.ensures.value) in
-    let within = (named_within p.id p.parts c.args.name c.in-Some.part found).0 in
-    let e = c.write.ensures in
-    subst (λ (q : PoolsState). Stay q (record { id = p.id; parts = set p.parts c.in-Some.part c.write.new.self; extent = p.extent })) c.self.view_is
-    (all_stay p c.in-Some.part c.index_mut.result.now c.write.new.self within c.index_mut.ensures.value e.frame.keeps.stays (ap (λ (t : TableRows). t.extents) e.frame.ledger))
+pub returns-clause-writes : goal.returns-clause-writes
+returns-clause-writes g c =
+    let which = named_part c.self.inside.id c.self.inside.parts.items _ c.args.name c.in-Some.part c.in-Some.ensures c.deref.ensures.value in
+    on_part c.in-Some.part c.self.invariant c.index_mut.ensures.value which.1 (keeps_written c.args.name c.args.at c.args.bytes.now c.write.ensures.keeps.is c.write.ensures.keeps.stays c.write.ensures.writes.heap c.write.ensures.ledger)
+    c.args.self.now c.self.view_is (λ q. part_named q c.args.name) which.0 (λ old new. Writes old new c.args.name c.args.at c.args.bytes.now c.write.result) (record { writes = c.write.ensures.writes; ledger = c.write.ensures.ledger })

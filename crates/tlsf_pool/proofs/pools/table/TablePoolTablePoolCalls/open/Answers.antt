@@ -25,7 +25,7 @@ new-requires g c =
     let none : c.in-Ok-from_elem.held.items ≡ replicate (length c.args.kinds.now) 0 = search rules in
     let heap : c.in_ok-heap.heap.heap ≡ opened c.args.id (fixed_kinds_words g.row.SLI c.args.kinds.now) c.args.first = c.in_ok-heap.ensures.heap ∙ ap (λ (n : ℕ). opened c.args.id n c.args.first) some.1 in
     let holds = subst (λ (ks : List Kind). IsTable g.row.SLI c.in_ok-heap.heap.heap (record { kinds = ks; held = c.in-Ok-from_elem.held.items; extents = record { kinds = record { address = c.in-Ok.rows.ptr; capacity = c.in-Ok.rows.cap }; held = record { address = c.in-Ok-from_elem.held.ptr; capacity = c.in-Ok-from_elem.held.cap } } })) (sym c.in-Ok.ensures.items)
-    (new_table g.row.SLI c.args.id c.args.first c.args.kinds.now _ _ _ c.requires.level some.0.0 c.requires.few none c.in_ok-heap.ensures.lawful heap) in
+    (new_table g.row.SLI c.args.id c.args.first c.args.kinds.now _ _ _ c.requires.rows.level some.0.0 c.requires.rows.few none c.in_ok-heap.ensures.lawful heap) in
     let is : IsLedgered (IsTable g.row.SLI) (record { heap = c.in_ok-heap.heap.heap; stored = c.in_ok-heap.heap.stored; ledger = record { kinds = c.in-Ok.rows.items; held = c.in-Ok-from_elem.held.items; extents = record { kinds = record { address = c.in-Ok.rows.ptr; capacity = c.in-Ok.rows.cap }; held = record { address = c.in-Ok-from_elem.held.ptr; capacity = c.in-Ok-from_elem.held.cap } } }; extents = c.in_ok-heap.heap.extents; touches = c.in_ok-heap.heap.touches; touched = c.in_ok-heap.heap.touched }) =
     record { lawful = c.in_ok-heap.ensures.lawful; holds = holds } in
     (omega arith, (omega arith, is))
