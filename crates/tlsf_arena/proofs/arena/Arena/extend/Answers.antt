@@ -7,7 +7,7 @@ use Rattle.tlsf_arena.proofs.arena.Arena.extend.Goals as goal
 pub replace_with-rest-requires : goal.replace_with-rest-requires
 replace_with-rest-requires g c =
     let longer = subst (λ (j : ℕ). c.args.size < j) (ap (λ (j : ℕ). g.row.UNIT * j) (sym c.units_of-units.ensures.units) ∙ sym c.bytes_of.ensures.bytes) c.requires.longer in
-    (extends c.self.inside.book.out c.args.right.loan (ap (λ s. s.heap) c.deref_mut.ensures.value) c.self.invariant.0 c.self.invariant.3 c.replace_with-right.ensures.2 c.requires.right.loan.0 c.resize_words.ensures.keeps.was_lawful
+    (extends c.self.inside.book.out c.args.right.loan (ap (λ s. s.heap) c.deref_mut.ensures.value) c.self.invariant.0 c.self.invariant.3 c.replace_with-right.ensures.2 c.requires.right.loan.0 c.resize_words.ensures.frame.keeps.was_lawful
     c.units_of-units.result c.lacking.ensures (sym c.in_default.is ∙ c.resize_words.ensures.resizes.answer_is) c.resize_words.ensures.resizes.heap c.grains_before.result c.bytes_of.result c.args.size c.grains_before.ensures.grains c.bytes_of.ensures.bytes c.requires.right.loan.1 longer).0
 
 pub replace_with-right-requires-2 : goal.replace_with-right-requires-2
@@ -20,16 +20,16 @@ invariant_of-self-2 g c =
     let answer = sym c.in_default.is ∙ c.resize_words.ensures.resizes.answer_is in
     let heap = c.resize_words.ensures.resizes.heap in
     let longer = subst (λ (j : ℕ). c.args.size < j) (ap (λ (j : ℕ). g.row.UNIT * j) (sym c.units_of-units.ensures.units) ∙ sym c.bytes_of.ensures.bytes) c.requires.longer in
-    let got = extends c.self.inside.book.out c.args.right.loan value c.self.invariant.0 c.self.invariant.3 c.replace_with-right.ensures.2 c.requires.right.loan.0 c.resize_words.ensures.keeps.was_lawful
+    let got = extends c.self.inside.book.out c.args.right.loan value c.self.invariant.0 c.self.invariant.3 c.replace_with-right.ensures.2 c.requires.right.loan.0 c.resize_words.ensures.frame.keeps.was_lawful
     c.units_of-units.result c.lacking.ensures answer heap c.grains_before.result c.bytes_of.result c.args.size c.grains_before.ensures.grains c.bytes_of.ensures.bytes c.requires.right.loan.1 longer in
     let lent = c.replace_with-rest.ensures in (
       got.1 c.replace_with-rest.new.dest.free lent.2,
       (lent.0 ∙ c.self.invariant.1.0, c.self.invariant.1.1),
       id_resized c.args.name c.units_of-units.result c.lacking.result c.self.inside.id value heap c.self.invariant.2,
-      book_resized c.units_of-units.result value c.self.invariant.3 c.replace_with-right.ensures c.requires.right.loan.0 c.lacking.result c.replace_with-right-2.new.dest.out c.lacking.ensures answer heap c.resize_words.ensures.keeps.lawful c.replace_with-right-2.ensures.0.1,
+      book_resized c.units_of-units.result value c.self.invariant.3 c.replace_with-right.ensures c.requires.right.loan.0 c.lacking.result c.replace_with-right-2.new.dest.out c.lacking.ensures answer heap c.resize_words.ensures.frame.keeps.lawful c.replace_with-right-2.ensures.0.1,
     )
 
 pub returns-clause-resizes : goal.returns-clause-resizes
 returns-clause-resizes g c =
-    resizes_done c.args.self.now _ c.self.inside.book.out c.args.right.loan (ap (λ s. s.heap) c.deref_mut.ensures.value) (ap (λ s. s.heap) c.self.view_is) c.self.invariant.3 c.replace_with-right.ensures.2 c.requires.right.loan.0 (search rules) c.resize_words.ensures.keeps.lawful
+    resizes_done c.args.self.now _ c.self.inside.book.out c.args.right.loan (ap (λ s. s.heap) c.deref_mut.ensures.value) (ap (λ s. s.heap) c.self.view_is) c.self.invariant.3 c.replace_with-right.ensures.2 c.requires.right.loan.0 (search rules) c.resize_words.ensures.frame.keeps.lawful
     g.row.UNIT c.args.len c.units_of-units.result c.lacking.result c.units_of-units.ensures.units c.lacking.ensures (sym c.in_default.is ∙ c.resize_words.ensures.resizes.answer_is) c.resize_words.ensures.resizes.heap

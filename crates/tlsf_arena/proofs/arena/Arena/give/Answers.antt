@@ -10,7 +10,7 @@ pub replace_with-requires : goal.replace_with-requires
 replace_with-requires g c =
     let piece = c.args.piece in
     let region = c.requires.lent.region ∙ sym (ap (λ s. s.region) c.self.view_is) in
-    let got = frees c.self.inside.book.out c.args.right.loan (ap (λ s. s.heap) c.deref_mut.ensures.value) c.self.invariant.0 c.self.invariant.3 c.replace_with-right.ensures.2 c.requires.lent.loan.0 c.release.ensures.keeps.was_lawful
+    let got = frees c.self.inside.book.out c.args.right.loan (ap (λ s. s.heap) c.deref_mut.ensures.value) c.self.invariant.0 c.self.invariant.3 c.replace_with-right.ensures.2 c.requires.lent.loan.0 c.release.ensures.frame.keeps.was_lawful
     (sym c.in-Ok.is ∙ c.release.ensures.releases.answer_is) c.release.ensures.releases.heap c.self.inside.space.region.start piece.at piece.size (c.requires.lent.place ∙ ap (λ r. r.start + g.row.UNIT * c.args.name.at) region) c.requires.lent.loan.1 in
     (region, got.0)
 
@@ -22,7 +22,7 @@ invariant_of-self g c =
     let value = ap (λ s. s.heap) c.deref_mut.ensures.value in
     let heap = c.release.ensures.releases.heap in
     let region = c.requires.lent.region ∙ sym (ap (λ s. s.region) c.self.view_is) in
-    let got = frees c.self.inside.book.out c.args.right.loan value c.self.invariant.0 c.self.invariant.3 known.2 c.requires.lent.loan.0 c.release.ensures.keeps.was_lawful
+    let got = frees c.self.inside.book.out c.args.right.loan value c.self.invariant.0 c.self.invariant.3 known.2 c.requires.lent.loan.0 c.release.ensures.frame.keeps.was_lawful
     (sym c.in-Ok.is ∙ c.release.ensures.releases.answer_is) heap a.space.region.start piece.at piece.size (c.requires.lent.place ∙ ap (λ r. r.start + g.row.UNIT * c.args.name.at) region) c.requires.lent.loan.1 in
     let back = c.replace_with.ensures in
     let left = c.replace_with-in-Ok.ensures.1 ∙ (λ i. without (known.1 i).loan (known.0 i).out) in
@@ -30,10 +30,10 @@ invariant_of-self g c =
       got.1 c.replace_with.new.dest.free back.2,
       (back.0 ∙ c.self.invariant.1.0, c.self.invariant.1.1),
       c.self.invariant.2 ∙ ap (λ (h : HeapState). h.id) (sym value) ∙ sym (ap (λ (h : HeapState). h.id) heap ∙ ids_step 0 c.deref_mut.result.now.heap (Take c.args.name)),
-      after_release c.deref_mut.result.now.heap c.release.new.self.heap c.args.name c.args.right.loan a.book.out c.replace_with-in-Ok.new.dest.out book known.2 c.requires.lent.loan.0 heap c.release.ensures.keeps.lawful left,
+      after_release c.deref_mut.result.now.heap c.release.new.self.heap c.args.name c.args.right.loan a.book.out c.replace_with-in-Ok.new.dest.out book known.2 c.requires.lent.loan.0 heap c.release.ensures.frame.keeps.lawful left,
     )
 
 pub returns-in-Ok-clause-releases : goal.returns-in-Ok-clause-releases
 returns-in-Ok-clause-releases g c =
-    releases_done c.args.self.now _ c.self.inside.book.out c.args.right.loan (ap (λ s. s.heap) c.deref_mut.ensures.value) (ap (λ s. s.heap) c.self.view_is) c.self.invariant.3 c.replace_with-right.ensures.2 c.requires.lent.loan.0 (search rules) c.release.ensures.keeps.lawful
+    releases_done c.args.self.now _ c.self.inside.book.out c.args.right.loan (ap (λ s. s.heap) c.deref_mut.ensures.value) (ap (λ s. s.heap) c.self.view_is) c.self.invariant.3 c.replace_with-right.ensures.2 c.requires.lent.loan.0 (search rules) c.release.ensures.frame.keeps.lawful
     (sym c.in-Ok.is ∙ c.release.ensures.releases.answer_is) c.release.ensures.releases.heap

@@ -9,7 +9,7 @@ replace_with-requires g c =
     let u = g.row.UNIT in
     let piece = c.args.piece in
     let region = c.requires.lent.region ∙ sym (ap (λ s. s.region) c.self.view_is) in
-    let got = refits c.self.inside.book.out c.args.right.loan (ap (λ s. s.heap) c.deref_mut.ensures.value) c.self.invariant.0 c.self.invariant.3 c.replace_with-right.ensures.2 c.requires.lent.loan.0 c.resize_words.ensures.keeps.was_lawful c.units_of-units.result c.lacking.ensures
+    let got = refits c.self.inside.book.out c.args.right.loan (ap (λ s. s.heap) c.deref_mut.ensures.value) c.self.invariant.0 c.self.invariant.3 c.replace_with-right.ensures.2 c.requires.lent.loan.0 c.resize_words.ensures.frame.keeps.was_lawful c.units_of-units.result c.lacking.ensures
     (sym c.in-Ok.is ∙ c.resize_words.ensures.resizes.answer_is) c.resize_words.ensures.resizes.heap c.self.inside.space.region.start piece.at piece.size (u / 16 * c.args.name.at) (16 * (u / 16 * c.units_of-units.result))
     (c.requires.lent.place ∙ ap (λ r. r.start + u * c.args.name.at) region) c.requires.lent.loan.1 refl (omega arith) in
     (region, got.0)
@@ -19,7 +19,7 @@ replace_with-piece-requires g c =
     let u = g.row.UNIT in
     let piece = c.args.piece in
     let region = c.requires.lent.region ∙ sym (ap (λ s. s.region) c.self.view_is) in
-    let got = refits c.self.inside.book.out c.args.right.loan (ap (λ s. s.heap) c.deref_mut.ensures.value) c.self.invariant.0 c.self.invariant.3 c.replace_with-right.ensures.2 c.requires.lent.loan.0 c.resize_words.ensures.keeps.was_lawful c.units_of-units.result c.lacking.ensures
+    let got = refits c.self.inside.book.out c.args.right.loan (ap (λ s. s.heap) c.deref_mut.ensures.value) c.self.invariant.0 c.self.invariant.3 c.replace_with-right.ensures.2 c.requires.lent.loan.0 c.resize_words.ensures.frame.keeps.was_lawful c.units_of-units.result c.lacking.ensures
     (sym c.in-Ok.is ∙ c.resize_words.ensures.resizes.answer_is) c.resize_words.ensures.resizes.heap c.self.inside.space.region.start piece.at piece.size c.grains_before-at.result c.bytes_of-size.result
     (c.requires.lent.place ∙ ap (λ r. r.start + u * c.args.name.at) region) c.requires.lent.loan.1 c.grains_before-at.ensures.grains c.bytes_of-size.ensures.grains in
     let opened = got.1 c.replace_with.new.dest.free c.replace_with.ensures.2 in
@@ -37,7 +37,7 @@ invariant_of-self g c =
     let answer = sym c.in-Ok.is ∙ c.resize_words.ensures.resizes.answer_is in
     let heap = c.resize_words.ensures.resizes.heap in
     let region = c.requires.lent.region ∙ sym (ap (λ s. s.region) c.self.view_is) in
-    let got = refits c.self.inside.book.out c.args.right.loan value c.self.invariant.0 c.self.invariant.3 c.replace_with-right.ensures.2 c.requires.lent.loan.0 c.resize_words.ensures.keeps.was_lawful c.units_of-units.result c.lacking.ensures
+    let got = refits c.self.inside.book.out c.args.right.loan value c.self.invariant.0 c.self.invariant.3 c.replace_with-right.ensures.2 c.requires.lent.loan.0 c.resize_words.ensures.frame.keeps.was_lawful c.units_of-units.result c.lacking.ensures
     answer heap c.self.inside.space.region.start piece.at piece.size c.grains_before-at.result c.bytes_of-size.result
     (c.requires.lent.place ∙ ap (λ r. r.start + u * c.args.name.at) region) c.requires.lent.loan.1 c.grains_before-at.ensures.grains c.bytes_of-size.ensures.grains in
     let opened = got.1 c.replace_with.new.dest.free c.replace_with.ensures.2 in
@@ -45,10 +45,10 @@ invariant_of-self g c =
       opened.1 c.replace_with-piece.new.dest.free lent.2,
       (lent.0 ∙ c.replace_with.ensures.0 ∙ c.self.invariant.1.0, c.self.invariant.1.1),
       id_resized c.args.name c.units_of-units.result c.lacking.result c.self.inside.id value heap c.self.invariant.2,
-      book_resized c.units_of-units.result value c.self.invariant.3 c.replace_with-right.ensures c.requires.lent.loan.0 c.lacking.result c.replace_with-right-in-Ok.new.dest.out c.lacking.ensures answer heap c.resize_words.ensures.keeps.lawful c.replace_with-right-in-Ok.ensures.0.1,
+      book_resized c.units_of-units.result value c.self.invariant.3 c.replace_with-right.ensures c.requires.lent.loan.0 c.lacking.result c.replace_with-right-in-Ok.new.dest.out c.lacking.ensures answer heap c.resize_words.ensures.frame.keeps.lawful c.replace_with-right-in-Ok.ensures.0.1,
     )
 
 pub returns-in-Ok-clause-resizes : goal.returns-in-Ok-clause-resizes
 returns-in-Ok-clause-resizes g c =
-    resizes_done c.args.self.now _ c.self.inside.book.out c.args.right.loan (ap (λ s. s.heap) c.deref_mut.ensures.value) (ap (λ s. s.heap) c.self.view_is) c.self.invariant.3 c.replace_with-right.ensures.2 c.requires.lent.loan.0 (search rules) c.resize_words.ensures.keeps.lawful
+    resizes_done c.args.self.now _ c.self.inside.book.out c.args.right.loan (ap (λ s. s.heap) c.deref_mut.ensures.value) (ap (λ s. s.heap) c.self.view_is) c.self.invariant.3 c.replace_with-right.ensures.2 c.requires.lent.loan.0 (search rules) c.resize_words.ensures.frame.keeps.lawful
     g.row.UNIT c.args.len c.units_of-units.result c.lacking.result c.units_of-units.ensures.units c.lacking.ensures (sym c.in-Ok.is ∙ c.resize_words.ensures.resizes.answer_is) c.resize_words.ensures.resizes.heap

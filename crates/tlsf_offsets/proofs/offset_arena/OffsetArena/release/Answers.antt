@@ -20,7 +20,7 @@ returns-clause-goes_on g c =
     let is : IsOffsets g.row.SLI c.args.self.now = search rules in
     record {
       unit = ap (λ (o : Offsets). o.unit) c.self.view_is;
-      stays = c.release.ensures.keeps.stays ∙ ap (λ (o : Offsets). o.extents) c.self.view_is;
+      stays = c.release.ensures.frame.keeps.stays ∙ ap (λ (o : Offsets). o.extents) c.self.view_is;
       was_lawful = is;
-      lawful = stays g.row.SLI c.args.self.now _ is (ap (λ (o : Offsets). o.unit) c.self.view_is) (ap (λ (h : HeapState). h.words) c.release.ensures.releases.heap ∙ words_released c.self.inside.heap.heap c.args.name ∙ ap (λ (o : Offsets). o.heap.words) c.self.view_is) c.release.ensures.keeps.lawful;
+      lawful = stays g.row.SLI c.args.self.now _ is (ap (λ (o : Offsets). o.unit) c.self.view_is) (ap (λ (h : HeapState). h.words) c.release.ensures.releases.heap ∙ words_released c.self.inside.heap.heap c.args.name ∙ ap (λ (o : Offsets). o.heap.words) c.self.view_is) c.release.ensures.frame.keeps.lawful;
     }

@@ -8,7 +8,7 @@ pub invariant_of-self : goal.invariant_of-self
 invariant_of-self g c =
     let which = long_part c.self.inside.parts.items _ c.args.len c.in-Some.part c.in-Some.ensures c.deref.ensures.value in
     pools_kept c.in-Some.part c.self.invariant c.index_mut.ensures.value which.1
-    (keeps_given c.args.len c.allocate.result c.allocate.ensures.keeps.is c.allocate.ensures.keeps.stays (on_ok _ c.allocate.result c.allocate.ensures.tells.ok (λ admits. (c.allocate.ensures.allocates admits).heap)) c.allocate.ensures.err c.allocate.ensures.limits)
+    (keeps_given c.args.len c.allocate.result c.allocate.ensures.frame.keeps.is c.allocate.ensures.frame.keeps.stays (on_ok _ c.allocate.result c.allocate.ensures.tells.ok (λ admits. (c.allocate.ensures.allocates admits).heap)) c.allocate.ensures.frame.err c.allocate.ensures.frame.limits)
 
 pub returns-clause-allocates : goal.returns-clause-allocates
 returns-clause-allocates g c =
@@ -16,7 +16,7 @@ returns-clause-allocates g c =
     let e = c.allocate.ensures in
     let heap = on_ok _ c.allocate.result e.tells.ok (λ admits. (e.allocates admits).heap) in
     on_part c.in-Some.part c.self.invariant c.index_mut.ensures.value which.1
-    (keeps_given c.args.len c.allocate.result c.allocate.ensures.keeps.is c.allocate.ensures.keeps.stays (on_ok _ c.allocate.result c.allocate.ensures.tells.ok (λ admits. (c.allocate.ensures.allocates admits).heap)) c.allocate.ensures.err c.allocate.ensures.limits)
+    (keeps_given c.args.len c.allocate.result c.allocate.ensures.frame.keeps.is c.allocate.ensures.frame.keeps.stays (on_ok _ c.allocate.result c.allocate.ensures.tells.ok (λ admits. (c.allocate.ensures.allocates admits).heap)) c.allocate.ensures.frame.err c.allocate.ensures.frame.limits)
     c.args.self.now c.self.view_is (λ q. part_of q c.args.len) which.0 (λ old new. Allocates g.row.SLI old new c.args.len c.allocate.result) (record {
       answer_is = e.tells.name;
       allocates = on_ok _ c.allocate.result e.tells.ok e.allocates;
