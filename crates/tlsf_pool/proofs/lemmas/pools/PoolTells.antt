@@ -1,5 +1,5 @@
 -- The facts that the answers of a pool tell, and those that all answers within bounds do.
-use Rattle.tlsf_pool.proofs.Common.{◌≡◌, ◌≢◌, ℕ, ◌-◌, ◌<◌, ◌≤◌, ◌↔◌, [], Bool, true, false, cond, Result, Ok, Err, IfOk, IsErrOf, IsOk, refl, sym, subst, arith, nat_lt, nat_le, false≢true, nat_tests, HeapState, allocated_words, fits, last_tick, named, payload_words_at, payload_words_given, want, Name, Refusal, PoolRefusal, TooLong, Full, sure, Bounds, IsPool, TellsBounds, answered_within, or_worn, pool_allocated}
+use Rattle.tlsf_pool.proofs.Common.{◌≡◌, ℕ, ◌-◌, ◌<◌, ◌≤◌, ◌↔◌, [], Bool, true, false, cond, Result, Ok, Err, IfOk, IsErrOf, IsOk, refl, sym, subst, arith, nat_lt, nat_le, false≢true, nat_tests, HeapState, allocated_words, fits, last_tick, named, payload_words_at, payload_words_given, want, Name, Refusal, PoolRefusal, TooLong, Full, sure, Bounds, IsPool, TellsBounds, answered_within, or_worn, pool_allocated}
 use Rattle.tlsf_heap.proofs.lemmas.laws.NoFit.{ok_words}
 use Rattle.tlsf_pool.proofs.lemmas.pools.Given.{given_whole}
 use Rattle.tlsf_pool.proofs.lemmas.pools.PoolKept.{fits_pool, four, given_pool, room, whole_words}

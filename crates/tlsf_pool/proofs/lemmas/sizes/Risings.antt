@@ -1,5 +1,5 @@
 -- Tables whose rows rise, and their parts.
-use Rattle.tlsf_pool.proofs.Common.{◌≡◌, ℕ, zero, suc, ◌+◌, ◌-◌, ◌<◌, List, [], ◌∷◌, ◌++◌, length, ap, subst, inl, inr, arith, length-append, AllByRecursion, cases_lt, get_or_append_left, get_or-append-add, Kind, Rises, len_at, joined}
+use Rattle.tlsf_pool.proofs.Common.{◌≡◌, ℕ, zero, suc, ◌+◌, ◌<◌, List, [], ◌∷◌, ◌++◌, length, ap, subst, inl, inr, arith, length-append, AllByRecursion, cases_lt, get_or_append_left, get_or-append-add, Kind, Rises, len_at, joined}
 
 -- each row before another is shorter
 pub shorter_before : (kinds : List Kind) → Rises kinds → (row k : ℕ) → k < row → row < length kinds → len_at kinds k < len_at kinds row
