@@ -1,5 +1,5 @@
 -- The counts of a heap over its requests.
-use Rattle.tlsf_c.proofs.Common.{◌≡◌, ℕ, ◌+◌, ◌≤◌, max, List, Result, Ok, Err, refl, ap, ◌∙◌, arith, OnErr, HeapState, Shown, words_in_use, words_at, Name, Refusal, counted, Seen, HeapCounts}
+use Rattle.tlsf_c.proofs.Common.{◌≡◌, ℕ, ◌+◌, ◌≤◌, max, List, Result, Ok, Err, refl, ap, ◌∙◌, arith, OnErr, HeapState, Shown, words_in_use, words_at, Name, Refusal, counted, Seen}
 use Rattle.std.proofs.Common.{Bool, true, false, cond}
 use Rattle.std.specs.Prelude.{◌==◌}
 use Rattle.tlsf_heap.specs.Effects.{Writes}

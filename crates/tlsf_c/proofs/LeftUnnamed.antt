@@ -7,7 +7,6 @@ use Rattle.tlsf_heap.specs.Steps.{Take}
 use Rattle.tlsf_heap.proofs.lemmas.blocks.Lawful.{all_left, all_right}
 use Rattle.tlsf_heap.proofs.lemmas.calls.Leaves.{word_step}
 use Rattle.tlsf_heap.proofs.lemmas.words.Footprint.{one_place}
-use Rattle.tlsf_c.proofs.Draining.{released_more}
 
 -- a word of another block than two is one of another than the first once the second is released
 released_others : (h : HeapState) (to k : ℕ) → IsOthersWord h.blocks to k → (name : Name) → IsOthersWord h.blocks name.at k → IsOthersWord (released h name).heap.blocks to k
@@ -34,24 +33,8 @@ leaves_more first last posts more old mid new is before after k all =
     after k (subst (λ (s : HeapState). Unnamed s k more) (sym is) (after_drain first k posts more front back)) ∙ before k front
 
 -- the release of one
-leaves_one : (blocks : List Block) (p : Post) (old new : List ℕ) → LeavesPayloads blocks p.name.at old new → LeavesUnnamed blocks (p ∷ []) old new
+pub leaves_one : (blocks : List Block) (p : Post) (old new : List ℕ) → LeavesPayloads blocks p.name.at old new → LeavesUnnamed blocks (p ∷ []) old new
 leaves_one blocks p old new left k all = left k all.0
 
--- ---- one post more of several: its name was released
-
-module _ (posts : List Post) (i : ℕ) (d : Post) (inside : i < length posts) where
-  abbrev name : Name
-  name = (get_or posts i d).name
-
-  one_longer : take (i + 1) posts ≡ take i posts ++ get_or posts i d ∷ []
-  one_longer = let next : i + 1 ≡ suc i = omega arith in ap (λ (n : ℕ). take n posts) next ∙ take-suc posts i d inside
-
-  pub drained_one : (first last now : HeapState) → last ≡ drained first (take i posts) → now ≡ (released last name).heap → now ≡ drained first (take (i + 1) posts)
-  drained_one first last now is gone =
-      released_more first last now (take i posts) (get_or posts i d ∷ []) is gone ∙ sym (ap (drained first) one_longer)
-
-  pub leaves_next : (first last : HeapState) (old mid new : List ℕ) → last ≡ drained first (take i posts) → LeavesUnnamed first.blocks (take i posts) old mid
-      → LeavesPayloads last.blocks name.at mid new → LeavesUnnamed first.blocks (take (i + 1) posts) old new
-  leaves_next first last old mid new is before left =
-      subst (λ (l : List Post). LeavesUnnamed first.blocks l old new) (sym one_longer)
-      (leaves_more first last (take i posts) (get_or posts i d ∷ []) old mid new is before (leaves_one last.blocks (get_or posts i d) mid new left))
+pub one_longer : (posts : List Post) (i : ℕ) (d : Post) → i < length posts → take (i + 1) posts ≡ take i posts ++ get_or posts i d ∷ []
+one_longer posts i d inside = let next : i + 1 ≡ suc i = omega arith in ap (λ (n : ℕ). take n posts) next ∙ take-suc posts i d inside

@@ -10,4 +10,5 @@ mod Counted
 mod Carried
 mod Giving
 mod LeftUnnamed
+mod DrainSteps
 mod LeftParts

@@ -1,5 +1,5 @@
 -- The counts of a heap.
-use Rattle.std.specs.Prelude.{◌≡◌, ℕ, ◌+◌, ◌≤◌, ◌-◌, ◌^◌, ◌==◌, Result, Ok, Err, max, min, if◌then◌else◌}
+use Rattle.std.specs.Prelude.{ℕ, ◌+◌, ◌-◌, ◌^◌, ◌==◌, Result, Ok, Err, max, min, if◌then◌else◌}
 use Rattle.tlsf_heap.specs.Blocks.{HeapState}
 use Rattle.tlsf_heap.specs.WordsInUse.{words_in_use, words_at}
 use Rattle.tlsf_heap.specs.declared.name.Name.{Name}
@@ -15,6 +15,10 @@ no_counts = record { words = 0; most_words = 0; refused = 0; longest_refused = 0
 -- the counts where a call left this heap: its words in use, and the most there ever were
 abbrev pub counted : HeapCounts → HeapState → HeapCounts
 counted c h = record c { words = words_in_use h; most_words = max c.most_words (words_in_use h) }
+
+-- those where only blocks were released: the most there ever were stays
+abbrev pub recounted : HeapCounts → HeapState → HeapCounts
+recounted c h = record c { words = words_in_use h }
 
 -- the counts where a request of `len` bytes was refused for want of room
 abbrev pub counted_refusal : HeapCounts → ℕ → HeapCounts

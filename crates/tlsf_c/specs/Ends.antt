@@ -1,7 +1,7 @@
 -- The ends of lanes and queues that C's handles hold.
 use Rattle.std.specs.Prelude.{◌≡◌, Bool, true, false, Option, Some, None, is_some, All, List, [], ◌∷◌, ◌++◌, map, length}
 use Rattle.tlsf_heap.specs.declared.name.Name.{Name}
-use Rattle.tlsf_post.specs.Mailboxes.{put_by, number_of, plan_of, PosterSaw}
+use Rattle.tlsf_post.specs.Mailboxes.{KeepsOwner, put_by, number_of, plan_of, PosterSaw}
 use Rattle.tlsf_post.specs.declared.post.Post.{Post}
 use Rattle.tlsf_post.specs.declared.post_end.PostEnd.{PostEnd}
 use Rattle.tlsf_post.specs.declared.take_end.TakeEnd.{TakeEnd}
@@ -89,6 +89,10 @@ poster_of_end (Some e) = poster_kind (as_kind e)
 -- the posters' ends that nobody was given yet
 abbrev pub left_in_end : QueueEnd → List AnyEnd
 left_in_end q = map (λ b. b.value) q.left.items
+
+-- the owner's end of its queue stays, and so do the ends that nobody was given yet
+abbrev pub StaysOwner : QueueEnd → QueueEnd → Type 0
+StaysOwner old new = KeepsOwner old.owner new.owner × (left_in_end new ≡ left_in_end old)
 
 -- a poster's, that no call is using
 abbrev pub idle_poster : PosterEnd → AnyEnd

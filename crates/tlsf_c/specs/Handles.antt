@@ -1,24 +1,26 @@
 -- The objects behind C's handles.
-use Rattle.std.specs.Prelude.{◌≡◌, ℕ, Bool, true, false, List, [], ◌∷◌, ◌++◌, Option, Some, None, is_some, map}
+use Rattle.std.specs.Prelude.{◌≡◌, ℕ, ◌-◌, ◌%◌, ◌<◌, ◌≤◌, Bool, true, false, List, [], ◌∷◌, ◌++◌, Option, Some, None, Result, is_some, length, map, take}
 use denote.RawPtr.{Ptr}
 use mathlib.Core.List.{IsPrefix}
-use Rattle.tlsf_heap.specs.Blocks.{HeapState}
-use Rattle.tlsf_heap.specs.Calls.{released}
+use Rattle.tlsf_heap.specs.Blocks.{HeapState, want}
+use Rattle.tlsf_heap.specs.Calls.{allocated, opened, released}
 use Rattle.tlsf_heap.specs.Effects.{Releases}
+use Rattle.tlsf_heap.specs.Moved.{resized_or_moved}
 use Rattle.tlsf_heap.specs.Shown.{Seen}
 use Rattle.tlsf_heap.specs.Touched.{release_touches}
-use Rattle.tlsf_heap.specs.WordsInUse.{words_in_use}
 use Rattle.tlsf_heap.specs.Image.{Image}
 use Rattle.tlsf_heap.specs.declared.name.Name.{Name}
+use Rattle.tlsf_heap.specs.declared.refusal.Refusal.{Refusal}
 use Rattle.tlsf_post.specs.Lanes.{posts_sent, free_slots, taken, ready, IsLane}
 use Rattle.tlsf_post.specs.declared.post.Post.{Post}
 use Rattle.tlsf_post.specs.declared.post_end.PostEnd.{PostEnd}
 use Rattle.tlsf_post.specs.declared.take_end.TakeEnd.{TakeEnd}
+use Rattle.tlsf_c.specs.Counting.{no_counts, recounted}
 use Rattle.tlsf_c.specs.Ends.{is_used, post_of_end, take_of_end}
 use Rattle.tlsf_c.specs.Levels.{GoesOn, seen_at}
 use Rattle.tlsf_c.specs.Names.{name_of}
 use Rattle.tlsf_c.specs.Refusals.{closed, status_of}
-use Rattle.tlsf_c.specs.Serving.{idle_if}
+use Rattle.tlsf_c.specs.Serving.{OnKind, idle_if}
 use Rattle.tlsf_c.specs.declared.heap_counts.HeapCounts.{HeapCounts}
 use Rattle.tlsf_c.specs.declared.names.BlockName.{BlockName}
 use Rattle.tlsf_c.specs.declared.heap_slot.HeapSlot.{HeapSlot}
@@ -75,17 +77,58 @@ pub record StaysOpenBut (noted : Bool → Bool → Type 0) (old new : HeapSlot) 
 abbrev pub StaysOpen : HeapSlot → HeapSlot → Type 0
 StaysOpen old new = StaysOpenBut (λ was is. is ≡ was) old new
 
--- so, and an odd block may be noted
-abbrev pub MayNote : HeapSlot → HeapSlot → Type 0
-MayNote old new = StaysOpenBut (λ was is. was ≡ true → is ≡ true) old new
+-- the note once a call for a block of `len` bytes answered so. A block of an odd number of words that was given is noted, and no other
+pub record NotesOdd (len answer : ℕ) (was is : Bool) : Type 0 where
+  pub mixed : answer ≡ 0 → want len % 2 ≡ 1 → is ≡ true
+  pub not_mixed : ¬ (want len % 2 ≡ 1) → is ≡ was
+  pub no_note : ¬ (answer ≡ 0) → is ≡ was
 
--- a release of this name is answered so: a handle that serves none stays as it is, and the heap of another one releases
-pub record ReleasesIn (old new : HeapSlot) (name : Name) (answer : ℕ) : Type 0 where
-  pub refused : serves old ≡ false → (answer ≡ closed) × (new ≡ old)
-  pub stays : serves old ≡ true → StaysOpen old new
-  pub status : serves old ≡ true → answer ≡ status_of (released (heap_in old) name).answer
-  pub counts : serves old ≡ true → counts_in new ≡ record (counts_in old) { words = words_in_use (heap_in new) }
-  pub releases : serves old ≡ true → Releases release_touches (seen_in old) (seen_in new) name (released (heap_in old) name).answer
+-- what lies in a handle beside its heap stays
+pub record KeepsBeside (old new : HeapSlot) : Type 0 where
+  pub base : new.base ≡ old.base
+  pub number : new.number ≡ old.number
+  pub mixed : new.is_mixed ≡ old.is_mixed
+
+-- an open handle of a new heap of that level, with that number and this many words
+pub record IsNewHeap (h : HeapSlot) (sli id words : ℕ) : Type 0 where
+  pub serves : serves h ≡ true
+  pub level : level_in h ≡ sli
+  pub heap : heap_in h ≡ opened id words 0
+  pub base : h.base ≡ address_in h
+  pub number : h.number ≡ id
+  pub mixed : h.is_mixed ≡ false
+  pub counts : counts_in h ≡ no_counts
+  pub touches : touches_in h ≤ 10
+
+-- a call on a heap's handle. Where the handle serves none, the call is refused so, and the handle stays as it is. Where it serves, it
+-- stays open but for its note, these are the heap's counts then, and the call does this
+pub record OnHeapBut (noted : Bool → Bool → Type 0) (old new : HeapSlot) (refused : Type 0) (left : HeapCounts) (done : Type 0) : Type 0 where
+  pub closed : serves old ≡ false → refused × (new ≡ old)
+  pub stays : serves old ≡ true → StaysOpenBut noted old new
+  pub counts : serves old ≡ true → counts_in new ≡ left
+  pub does : serves old ≡ true → done
+
+-- so, and the note is as before
+abbrev pub OnHeap : HeapSlot → HeapSlot → Type 0 → HeapCounts → Type 0 → Type 0
+OnHeap old new refused left done = OnHeapBut (λ was is. is ≡ was) old new refused left done
+
+-- the heap answers so. C is told it by these rules, and the call has the effect of one with that answer
+pub record Tells {A B : Type 0} (rules : Result A Refusal → B) (told : B) (answer : Result A Refusal) (has : Result A Refusal → Type 0) : Type 0 where
+  pub status : told ≡ rules answer
+  pub effect : has answer
+
+-- the answer of the heap to a request for `len` bytes
+abbrev pub allocated_in : HeapSlot → ℕ → Result Name Refusal
+allocated_in h len = (allocated (level_in h) (heap_in h) len).answer
+
+-- and to a resize of the block of this name to `len` bytes, which may move it
+abbrev pub moved_in : HeapSlot → Name → ℕ → Result Name Refusal
+moved_in h name len = (resized_or_moved (level_in h) (heap_in h) name len).answer
+
+-- a release of this name is answered so
+abbrev pub ReleasesIn : HeapSlot → HeapSlot → Name → ℕ → Type 0
+ReleasesIn old new name answer =
+    OnHeap old new (answer ≡ closed) (recounted (counts_in old) (heap_in new)) (Tells status_of answer (released (heap_in old) name).answer (Releases release_touches (seen_in old) (seen_in new) name))
 
 -- ---- ends of lanes
 
@@ -96,6 +139,14 @@ post_of name = record { from = 0; name = name }
 -- and of several
 abbrev pub posts_named : List BlockName → List Post
 posts_named names = map (λ n. post_of (name_of n)) names
+
+-- the first `went` of these names go into a lane: all that there is a slot for, as far as its end knows
+pub record PutsNames (old new : PostEnd) (names : List BlockName) (went : ℕ) : Type 0 where
+  pub lane : (t : TakeEnd) → IsLane old t → IsLane new t
+  pub most : went ≤ length names
+  pub sent : posts_sent new ≡ posts_sent old ++ posts_named (take went names)
+  pub slots : free_slots new ≡ free_slots old - went
+  pub succeeds : went < length names → free_slots old ≤ went
 
 -- the posts sent since the lane was opened
 abbrev pub sent_by : Option PostEnd → List Post
@@ -142,6 +193,18 @@ holds_post h = is_some (post_in h)
 -- it is one that takes names out
 abbrev pub holds_take : EndSlot → Bool
 holds_take h = is_some (take_in h)
+
+-- a call on a handle that has to hold an end which puts names in. The handle serves again with that kind
+abbrev pub OnPost : EndSlot → EndSlot → ℕ → Type 0 → Type 0
+OnPost old new answer done = OnKind (end_serves old) (holds_post old) old new answer ((end_serves new ≡ true) × (holds_post new ≡ true) × done)
+
+-- and on one that has to hold an end which takes names out
+abbrev pub OnTake : EndSlot → EndSlot → ℕ → Type 0 → Type 0
+OnTake old new answer done = OnKind (end_serves old) (holds_take old) old new answer ((end_serves new ≡ true) × (holds_take new ≡ true) × done)
+
+-- a call that closes an end, which has to be of that kind
+abbrev pub ClosesEnd : Bool → EndSlot → EndSlot → ℕ → Type 0
+ClosesEnd holds old new answer = OnKind (end_serves old) holds old new answer ((answer ≡ 0) × (new.is_open ≡ false))
 
 -- the next post was taken, and has that name
 abbrev pub HasTaken : TakeEnd → TakeEnd → Name → Type 0

@@ -6,7 +6,7 @@ use Rattle.tlsf_offsets.specs.declared.usage.Usage.{Usage}
 use Rattle.tlsf_c.specs.Arenas.{is_offsets, offsets_of}
 use Rattle.tlsf_c.specs.Names.{name_of}
 use Rattle.tlsf_c.specs.OffsetLevels.{OffsetsGoOn}
-use Rattle.tlsf_c.specs.Serving.{arena_serves}
+use Rattle.tlsf_c.specs.Serving.{OnKind, arena_serves}
 use Rattle.tlsf_c.specs.declared.spans.OffsetSpan.{OffsetSpan}
 use Rattle.tlsf_c.specs.declared.spans.OffsetUsage.{OffsetUsage}
 use Rattle.tlsf_c.specs.declared.arena_slot.ArenaSlot.{ArenaSlot}
@@ -28,6 +28,10 @@ pub record OffsetsStayOpen (old new : ArenaSlot) : Type 0 where
   pub serves : arena_serves new ≡ true
   pub kind : holds_offsets new ≡ holds_offsets old
   pub goes_on : OffsetsGoOn (offsets_of old.inner.value) (offsets_of new.inner.value)
+
+-- a call on a handle that has to hold an arena of offsets: the handle stays open
+abbrev pub OnOffsets : ArenaSlot → ArenaSlot → ℕ → Type 0 → Type 0
+OnOffsets old new answer done = OnKind (arena_serves old) (holds_offsets old) old new answer (OffsetsStayOpen old new × done)
 
 abbrev pub span_of : OffsetSpan → Span
 span_of s = record { name = name_of s.name; offset = s.offset; size = s.size }

@@ -1,11 +1,13 @@
 -- The objects behind C's handles of a queue.
-use Rattle.std.specs.Prelude.{◌≡◌, ℕ, ◌+◌, Bool, List, [], ◌∷◌, ◌++◌, map, Option, Some, None, is_some, All, ⊤}
+use Rattle.std.specs.Prelude.{◌≡◌, ℕ, ◌+◌, Bool, true, List, [], ◌∷◌, ◌++◌, map, Option, Some, None, is_some, All, ⊤}
 use Rattle.tlsf_heap.specs.declared.name.Name.{Name}
 use Rattle.tlsf_post.specs.Mailboxes.{put_by, out_of, most_of, got_by, IsAllTaken, IsWhole, KeepsOwner, KeepsPoster}
 use Rattle.tlsf_post.specs.declared.post.Post.{Post}
 use Rattle.tlsf_post.specs.declared.owner_end.OwnerEnd.{OwnerEnd}
 use Rattle.tlsf_post.specs.declared.poster_end.PosterEnd.{PosterEnd}
 use Rattle.tlsf_c.specs.Ends.{idle_poster, left_in_end, queue_of_end, poster_of_end, HasGiven, HasPut, WasFull}
+use Rattle.tlsf_c.specs.Handles.{end_serves}
+use Rattle.tlsf_c.specs.Serving.{OnKind}
 use Rattle.tlsf_c.specs.declared.queue_end.QueueEnd.{QueueEnd}
 use Rattle.tlsf_c.specs.declared.any_end.AnyEnd.{AnyEnd}
 use Rattle.tlsf_c.specs.declared.end_slot.EndSlot.{EndSlot}
@@ -35,6 +37,10 @@ holds_queue h = is_some (queue_in h)
 -- the owner's end of an open handle
 abbrev pub owner_in : EndSlot → Option OwnerEnd
 owner_in h = owner_of_end (queue_in h)
+
+-- a call on a handle that has to hold the owner's end of a queue. The handle serves again with that kind
+abbrev pub OnQueue : EndSlot → EndSlot → ℕ → Type 0 → Type 0
+OnQueue old new answer done = OnKind (end_serves old) (holds_queue old) old new answer ((end_serves new ≡ true) × (holds_queue new ≡ true) × done)
 
 -- the posters' ends that nobody was given yet
 abbrev pub left_in : EndSlot → List AnyEnd
@@ -83,6 +89,10 @@ end_in h = poster_of_end h.inner.value
 -- it is a poster's
 abbrev pub holds_poster : EndSlot → Bool
 holds_poster h = is_some (end_in h)
+
+-- a call on a handle that has to hold a poster's end. The handle serves again with that kind
+abbrev pub OnPoster : EndSlot → EndSlot → ℕ → Type 0 → Type 0
+OnPoster old new answer done = OnKind (end_serves old) (holds_poster old) old new answer ((end_serves new ≡ true) × (holds_poster new ≡ true) × done)
 
 -- the posts put through it
 abbrev pub put_in : EndSlot → List Post

@@ -1,17 +1,18 @@
 //! A heap whose level is told when it is opened.
-ghost use Rattle.std.specs.Prelude.{◌≡◌, ◌+◌, ◌≤◌, ◌↔◌, length, IfOk, IfErr, IsErrOf};
+ghost use Rattle.std.specs.Prelude.{◌≡◌, ◌≤◌, ◌↔◌, length, IfOk, IfErr, IsErrOf};
 ghost use Rattle.tlsf_heap.specs.Blocks.{want};
 ghost use Rattle.tlsf_heap.specs.Lawful.{IsRegion};
 ghost use Rattle.tlsf_heap.specs.Calls.{opened};
 ghost use Rattle.tlsf_heap.specs.Effects.{Allocates, Locates, Reads, Releases, Reports, Resets, Resizes, Writes};
 ghost use Rattle.tlsf_heap.specs.Touched.{allocate_touches, read_touches, release_touches, reset_touches, resize_touches, write_touches};
 ghost use Rattle.tlsf_heap.specs.WordsInUse.{words_in_use};
-ghost use Rattle.tlsf_c.specs.Counting.{no_counts, counted, counted_request};
-ghost use Rattle.tlsf_c.specs.Levels.{GoesOn, seen_at};
+ghost use Rattle.tlsf_c.specs.Counting.{no_counts, counted, counted_request, recounted};
+ghost use Rattle.tlsf_c.specs.Levels.{GoesOn, seen_at, GoesOnWith, IsLevel};
 
 mod around;
 mod by_place;
 
+use crate::at_level::at_level;
 use crate::heap_counts::HeapCounts;
 use crate::refused::Refused;
 use std::alloc::Global;
@@ -47,8 +48,7 @@ impl Model for AnyHeap {
 impl AnyHeap {
     /// Opens a heap of a level, 4 or 5, over `words` words: number `id`, tick 0.
     pub fn open(alloc: Global, level: u32, id: u32, words: u32) -> Result<AnyHeap, OpenFault>
-        requires least { 4 ≤ level }
-        requires most { level ≤ 5 }
+        requires level { IsLevel level }
         ensures heap { IfOk result (λ heap. heap.heap ≡ opened id words 0) }
         ensures level { IfOk result (λ heap. heap.level ≡ level) }
         ensures bad_size { IsErrOf result OpenFault.BadSize ↔ ¬ (IsRegion level words) }
@@ -74,49 +74,33 @@ impl AnyHeap {
     /// `Heap::allocate`.
     pub fn allocate(&mut self, len: u32) -> Result<Name, Refusal>
         ensures allocates { Allocates allocate_touches self.old.level (want len) len (seen_at self.old) (seen_at self.new) result }
-        ensures goes_on { GoesOn self.old self.new }
-        ensures counts { self.new.counts ≡ counted_request self.old.counts result len self.new.heap }
+        ensures goes_on { GoesOnWith self.old self.new (counted_request self.old.counts result len self.new.heap) }
     {
-        match &mut self.of_level {
-            OfLevel::Four(heap) => self.refused.allocate(heap, len),
-            OfLevel::Five(heap) => self.refused.allocate(heap, len),
-        }
+        at_level!(OfLevel, &mut self.of_level, heap => self.refused.allocate(heap, len))
     }
 
     /// `Heap::release`.
     pub fn release(&mut self, name: Name) -> Result<(), Refusal>
         ensures releases { Releases release_touches (seen_at self.old) (seen_at self.new) name result }
-        ensures goes_on { GoesOn self.old self.new }
-        ensures counts { self.new.counts ≡ record self.old.counts { words = words_in_use self.new.heap } }
+        ensures goes_on { GoesOnWith self.old self.new (recounted self.old.counts self.new.heap) }
     {
-        match &mut self.of_level {
-            OfLevel::Four(heap) => heap.release(name),
-            OfLevel::Five(heap) => heap.release(name),
-        }
+        at_level!(OfLevel, &mut self.of_level, heap => heap.release(name))
     }
 
     /// `Heap::reset`.
     pub fn reset(&mut self) -> Result<(), Refusal>
         ensures resets { Resets reset_touches (seen_at self.old) (seen_at self.new) result }
-        ensures goes_on { GoesOn self.old self.new }
-        ensures counts { self.new.counts ≡ record self.old.counts { words = words_in_use self.new.heap } }
+        ensures goes_on { GoesOnWith self.old self.new (recounted self.old.counts self.new.heap) }
     {
-        match &mut self.of_level {
-            OfLevel::Four(heap) => heap.reset(),
-            OfLevel::Five(heap) => heap.reset(),
-        }
+        at_level!(OfLevel, &mut self.of_level, heap => heap.reset())
     }
 
     /// `Heap::resize`.
     pub fn resize(&mut self, name: Name, len: u32) -> Result<(), Refusal>
         ensures resizes { Resizes resize_touches (want len) len (seen_at self.old) (seen_at self.new) name result }
-        ensures goes_on { GoesOn self.old self.new }
-        ensures counts { self.new.counts ≡ counted self.old.counts self.new.heap }
+        ensures goes_on { GoesOnWith self.old self.new (counted self.old.counts self.new.heap) }
     {
-        match &mut self.of_level {
-            OfLevel::Four(heap) => heap.resize(name, len),
-            OfLevel::Five(heap) => heap.resize(name, len),
-        }
+        at_level!(OfLevel, &mut self.of_level, heap => heap.resize(name, len))
     }
 
     /// `Heap::write`.
@@ -125,46 +109,31 @@ impl AnyHeap {
         ensures goes_on { GoesOn self.old self.new }
         ensures counts { self.new.counts ≡ self.old.counts }
     {
-        match &mut self.of_level {
-            OfLevel::Four(heap) => heap.write(name, at, bytes),
-            OfLevel::Five(heap) => heap.write(name, at, bytes),
-        }
+        at_level!(OfLevel, &mut self.of_level, heap => heap.write(name, at, bytes))
     }
 
     /// `Heap::read`.
     pub fn read(&mut self, name: Name, at: u32, out: &mut [u8]) -> Result<(), Refusal>
         ensures reads { Reads (read_touches (length out.old)) (seen_at self.old) (seen_at self.new) name at out.old out.new result }
-        ensures goes_on { GoesOn self.old self.new }
-        ensures counts { self.new.counts ≡ self.old.counts }
+        ensures goes_on { GoesOnWith self.old self.new self.old.counts }
     {
-        match &mut self.of_level {
-            OfLevel::Four(heap) => heap.read(name, at, out),
-            OfLevel::Five(heap) => heap.read(name, at, out),
-        }
+        at_level!(OfLevel, &mut self.of_level, heap => heap.read(name, at, out))
     }
 
     /// `Heap::payload`.
     pub fn payload(&mut self, name: Name) -> Result<(*mut u64, u32), Refusal>
         ensures locates { Locates self.old.extents.words.address (seen_at self.old) (seen_at self.new) name result }
-        ensures goes_on { GoesOn self.old self.new }
-        ensures counts { self.new.counts ≡ self.old.counts }
+        ensures goes_on { GoesOnWith self.old self.new self.old.counts }
     {
-        match &mut self.of_level {
-            OfLevel::Four(heap) => heap.payload(name),
-            OfLevel::Five(heap) => heap.payload(name),
-        }
+        at_level!(OfLevel, &mut self.of_level, heap => heap.payload(name))
     }
 
     /// `Heap::report`.
     pub fn report(&mut self) -> Report
         ensures reports { Reports self.old.level (seen_at self.old) (seen_at self.new) result }
-        ensures goes_on { GoesOn self.old self.new }
-        ensures counts { self.new.counts ≡ self.old.counts }
+        ensures goes_on { GoesOnWith self.old self.new self.old.counts }
     {
-        match &mut self.of_level {
-            OfLevel::Four(heap) => heap.report(),
-            OfLevel::Five(heap) => heap.report(),
-        }
+        at_level!(OfLevel, &mut self.of_level, heap => heap.report())
     }
 
     /// The counts of its calls.
@@ -175,10 +144,8 @@ impl AnyHeap {
         ensures words { result.words ≡ words_in_use self.now.heap }
         ensures most { result.words ≤ result.most_words }
     {
-        let (words, most_words) = match &self.of_level {
-            OfLevel::Four(heap) => (heap.words_in_use(), heap.most_in_use()),
-            OfLevel::Five(heap) => (heap.words_in_use(), heap.most_in_use()),
-        };
+        let (words, most_words) =
+            at_level!(OfLevel, &self.of_level, heap => (heap.words_in_use(), heap.most_in_use()));
         HeapCounts {
             words,
             most_words,

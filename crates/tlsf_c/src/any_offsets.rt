@@ -1,13 +1,15 @@
 //! An arena of offsets whose level is told when it is opened.
-ghost use Rattle.std.specs.Prelude.{◌≡◌, ◌≢◌, ◌+◌, ◌*◌, ◌<◌, ◌≤◌, ◌↔◌, length, IfOk, OnOk, OnErr, IsErrOf, MatchResult, Ok, Err};
+ghost use Rattle.std.specs.Prelude.{◌≡◌, ◌≢◌, ◌+◌, ◌*◌, ◌<◌, ◌≤◌, ◌↔◌, length, IfOk, OnOk, IsErrOf, MatchResult, Ok, Err};
 ghost use Rattle.tlsf_heap.specs.Calls.{opened, allocated_words, resized_words};
 ghost use Rattle.tlsf_heap.specs.Effects.{Allocates, Releases, Resizes};
 ghost use Rattle.tlsf_heap.specs.Lawful.{IsRegion};
 ghost use Rattle.tlsf_heap.specs.Touched.{allocate_touches, release_touches, resize_touches};
 ghost use Rattle.tlsf_offsets.specs.Offsets.{IsHeld, KeepsOthers, span_units, usage_of, seen_of};
 ghost use Rattle.tlsf_offsets.specs.declared.span.Span.{Span};
-ghost use Rattle.tlsf_c.specs.OffsetLevels.{OffsetsGoOn};
+ghost use Rattle.tlsf_c.specs.OffsetLevels.{OffsetsAnswer};
+ghost use Rattle.tlsf_c.specs.Levels.{IsLevel};
 
+use crate::at_level::at_level;
 use std::alloc::Global;
 use std::marker::Model;
 use tlsf_offsets::{Name, OffsetArena, OpenFault, Refusal, Span, Usage};
@@ -44,8 +46,7 @@ impl AnyOffsets {
         unit: u32,
         units: u32,
     ) -> Result<AnyOffsets, OpenFault>
-        requires least { 4 ≤ level }
-        requires most { level ≤ 5 }
+        requires level { IsLevel level }
         ensures heap { IfOk result (λ a. a.offsets.heap ≡ opened id units 0) }
         ensures level { IfOk result (λ a. a.level ≡ level) }
         ensures unit { IfOk result (λ a. a.offsets.unit ≡ unit) }
@@ -70,47 +71,35 @@ impl AnyOffsets {
     pub fn allocate(&mut self, len: u64) -> Result<Span, Refusal>
         ensures answer { MatchResult result (λ span. (allocated_words self.old.level self.old.offsets.heap (span_units self.old.offsets.unit len) 0).answer ≡ Ok span.name) (λ why. (allocated_words self.old.level self.old.offsets.heap (span_units self.old.offsets.unit len) 0).answer ≡ Err why) }
         ensures allocates { Allocates (allocate_touches + 1) self.old.level (span_units self.old.offsets.unit len) 0 (seen_of self.old.offsets) (seen_of self.new.offsets) (allocated_words self.old.level self.old.offsets.heap (span_units self.old.offsets.unit len) 0).answer }
-        ensures err { OnErr result (self.new.offsets.heap ≡ self.old.offsets.heap) }
         ensures held { IfOk result (λ span. IsHeld self.new.offsets span) }
         ensures enough { IfOk result (λ span. len ≤ span.size) }
         ensures others { (other : Span) → IsHeld self.old.offsets other → IsHeld self.new.offsets other }
         ensures fresh { IfOk result (λ span. (other : Span) → IsHeld self.old.offsets other → other.name ≢ span.name) }
-        ensures goes_on { OffsetsGoOn self.old self.new }
+        ensures goes_on { OffsetsAnswer self.old self.new result }
     {
-        match &mut self.of_level {
-            OffsetsOfLevel::Four(arena) => arena.allocate(len),
-            OffsetsOfLevel::Five(arena) => arena.allocate(len),
-        }
+        at_level!(OffsetsOfLevel, &mut self.of_level, arena => arena.allocate(len))
     }
 
     /// `OffsetArena::release`.
     pub fn release(&mut self, name: Name) -> Result<(), Refusal>
         ensures releases { Releases release_touches (seen_of self.old.offsets) (seen_of self.new.offsets) name result }
-        ensures err { OnErr result (self.new.offsets.heap ≡ self.old.offsets.heap) }
         ensures others { KeepsOthers self.old.offsets self.new.offsets name }
         ensures gone { OnOk result ((span : Span) → IsHeld self.new.offsets span → span.name ≢ name) }
-        ensures goes_on { OffsetsGoOn self.old self.new }
+        ensures goes_on { OffsetsAnswer self.old self.new result }
     {
-        match &mut self.of_level {
-            OffsetsOfLevel::Four(arena) => arena.release(name),
-            OffsetsOfLevel::Five(arena) => arena.release(name),
-        }
+        at_level!(OffsetsOfLevel, &mut self.of_level, arena => arena.release(name))
     }
 
     /// `OffsetArena::resize`.
     pub fn resize(&mut self, name: Name, len: u64) -> Result<Span, Refusal>
         ensures answer { MatchResult result (λ span. ((resized_words self.old.offsets.heap name (span_units self.old.offsets.unit len) 0).answer ≡ Ok tt) × (span.name ≡ name)) (λ why. (resized_words self.old.offsets.heap name (span_units self.old.offsets.unit len) 0).answer ≡ Err why) }
         ensures resizes { Resizes (resize_touches + 1) (span_units self.old.offsets.unit len) 0 (seen_of self.old.offsets) (seen_of self.new.offsets) name (resized_words self.old.offsets.heap name (span_units self.old.offsets.unit len) 0).answer }
-        ensures err { OnErr result (self.new.offsets.heap ≡ self.old.offsets.heap) }
         ensures held { IfOk result (λ span. IsHeld self.new.offsets span) }
         ensures enough { IfOk result (λ span. len ≤ span.size) }
         ensures others { KeepsOthers self.old.offsets self.new.offsets name }
-        ensures goes_on { OffsetsGoOn self.old self.new }
+        ensures goes_on { OffsetsAnswer self.old self.new result }
     {
-        match &mut self.of_level {
-            OffsetsOfLevel::Four(arena) => arena.resize(name, len),
-            OffsetsOfLevel::Five(arena) => arena.resize(name, len),
-        }
+        at_level!(OffsetsOfLevel, &mut self.of_level, arena => arena.resize(name, len))
     }
 
     /// `OffsetArena::usage`.
@@ -119,9 +108,6 @@ impl AnyOffsets {
         ensures same { (self.new.level ≡ self.old.level) × (self.new.offsets.heap ≡ self.old.offsets.heap) × (self.new.offsets.unit ≡ self.old.offsets.unit) }
         ensures touches { self.new.offsets.touches ≤ self.old.offsets.touches + 2 * length self.old.offsets.heap.blocks }
     {
-        match &mut self.of_level {
-            OffsetsOfLevel::Four(arena) => arena.usage(),
-            OffsetsOfLevel::Five(arena) => arena.usage(),
-        }
+        at_level!(OffsetsOfLevel, &mut self.of_level, arena => arena.usage())
     }
 }

@@ -1,10 +1,13 @@
 //! Pools whose level is told when they are opened.
-ghost use Rattle.std.specs.Prelude.{◌≡◌, ◌+◌, ◌<◌, ◌≤◌, ◌^◌, ◌↔◌, None, length, IfOk, IfSome, IsErrOf};
+ghost use Rattle.std.specs.Prelude.{◌≡◌, ◌+◌, ◌≤◌, ◌^◌, ◌↔◌, None, length, IfOk, IfSome, IsErrOf};
 ghost use Rattle.tlsf_pool.specs.sizes.Rising.{HasNoHeaps};
 ghost use Rattle.tlsf_c.specs.PoolCalls.{AreNewPools, AllocatesInPools, ReleasesInPools, WritesInPools, ReadsInPools, ReportsInPools, ChecksInPools, LooksInPools};
 ghost use Rattle.tlsf_pool.specs.pools.Parts.{counts_at, part_at, table_of};
 ghost use Rattle.tlsf_pool.specs.pools.Tables as tables;
+ghost use Rattle.tlsf_c.specs.Levels.{IsLevel};
+ghost use Rattle.tlsf_c.specs.PoolLevels.{AtLevel};
 
+use crate::at_level::at_level;
 use std::alloc::Global;
 use std::marker::Model;
 use tlsf_heap::{Checked, Name, OpenFault, PlacedBlock, Refusal, Report};
@@ -36,8 +39,7 @@ impl Model for AnyPools {
 impl AnyPools {
     /// Opens the pools of a level, 4 or 5, for a table: their heaps have the numbers from `id` on.
     pub fn open(alloc: Global, level: u32, id: u32, kinds: &[Kind]) -> Result<AnyPools, OpenFault>
-        requires least { 4 ≤ level }
-        requires most { level ≤ 5 }
+        requires level { IsLevel level }
         requires few { length kinds.now ≤ 64 }
         requires numbers { id + 8 ≤ 2 ^ 32 }
         ensures level { IfOk result (λ a. a.level ≡ level) }
@@ -63,54 +65,35 @@ impl AnyPools {
         ensures level { self.new.level ≡ self.old.level }
         ensures allocates { AllocatesInPools self.old.level self.old.pools self.new.pools len result }
     {
-        match &mut self.of_level {
-            PoolsOfLevel::Four(pools) => pools.allocate(len),
-            PoolsOfLevel::Five(pools) => pools.allocate(len),
-        }
+        at_level!(PoolsOfLevel, &mut self.of_level, pools => pools.allocate(len))
     }
 
     /// `Pools::release`.
     pub fn release(&mut self, name: Name) -> Result<(), Refusal>
-        ensures level { self.new.level ≡ self.old.level }
-        ensures releases { ReleasesInPools self.old.pools self.new.pools name result }
+        ensures releases { AtLevel self.old self.new (ReleasesInPools self.old.pools self.new.pools name result) }
     {
-        match &mut self.of_level {
-            PoolsOfLevel::Four(pools) => pools.release(name),
-            PoolsOfLevel::Five(pools) => pools.release(name),
-        }
+        at_level!(PoolsOfLevel, &mut self.of_level, pools => pools.release(name))
     }
 
     /// `Pools::write`.
     pub fn write(&mut self, name: Name, at: u32, bytes: &[u8]) -> Result<(), Refusal>
-        ensures level { self.new.level ≡ self.old.level }
-        ensures writes { WritesInPools self.old.pools self.new.pools name at bytes.now result }
+        ensures writes { AtLevel self.old self.new (WritesInPools self.old.pools self.new.pools name at bytes.now result) }
     {
-        match &mut self.of_level {
-            PoolsOfLevel::Four(pools) => pools.write(name, at, bytes),
-            PoolsOfLevel::Five(pools) => pools.write(name, at, bytes),
-        }
+        at_level!(PoolsOfLevel, &mut self.of_level, pools => pools.write(name, at, bytes))
     }
 
     /// `Pools::read`.
     pub fn read(&mut self, name: Name, at: u32, out: &mut [u8]) -> Result<(), Refusal>
-        ensures level { self.new.level ≡ self.old.level }
-        ensures reads { ReadsInPools self.old.pools self.new.pools name at out.old out.new result }
+        ensures reads { AtLevel self.old self.new (ReadsInPools self.old.pools self.new.pools name at out.old out.new result) }
     {
-        match &mut self.of_level {
-            PoolsOfLevel::Four(pools) => pools.read(name, at, out),
-            PoolsOfLevel::Five(pools) => pools.read(name, at, out),
-        }
+        at_level!(PoolsOfLevel, &mut self.of_level, pools => pools.read(name, at, out))
     }
 
     /// `Pools::report`.
     pub fn report(&mut self, part: usize) -> Option<Report>
-        ensures level { self.new.level ≡ self.old.level }
-        ensures reports { ReportsInPools self.old.level self.old.pools self.new.pools part result }
+        ensures reports { AtLevel self.old self.new (ReportsInPools self.old.level self.old.pools self.new.pools part result) }
     {
-        match &mut self.of_level {
-            PoolsOfLevel::Four(pools) => pools.report(part),
-            PoolsOfLevel::Five(pools) => pools.report(part),
-        }
+        at_level!(PoolsOfLevel, &mut self.of_level, pools => pools.report(part))
     }
 
     /// `Pools::number`.
@@ -118,10 +101,7 @@ impl AnyPools {
         ensures none { (result ≡ None) ↔ (length self.now.pools.parts ≤ part) }
         ensures number { IfSome result (λ number. number ≡ (part_at self.now.pools part).heap.id) }
     {
-        match &self.of_level {
-            PoolsOfLevel::Four(pools) => pools.number(part),
-            PoolsOfLevel::Five(pools) => pools.number(part),
-        }
+        at_level!(PoolsOfLevel, &self.of_level, pools => pools.number(part))
     }
 
     /// `Pools::base`.
@@ -130,51 +110,34 @@ impl AnyPools {
         ensures address { IfSome result (λ base. base ≡ (part_at self.old.pools part).extents.words.address) }
         ensures same { self.new ≡ self.old }
     {
-        match &mut self.of_level {
-            PoolsOfLevel::Four(pools) => pools.base(part),
-            PoolsOfLevel::Five(pools) => pools.base(part),
-        }
+        at_level!(PoolsOfLevel, &mut self.of_level, pools => pools.base(part))
     }
 
     /// `Pools::row_len`.
     pub fn row_len(&self, len: u32) -> Option<u32>
         ensures { result ≡ tables.row_len (table_of self.now.pools) len }
     {
-        match &self.of_level {
-            PoolsOfLevel::Four(pools) => pools.row_len(len),
-            PoolsOfLevel::Five(pools) => pools.row_len(len),
-        }
+        at_level!(PoolsOfLevel, &self.of_level, pools => pools.row_len(len))
     }
 
     /// `Pools::counts`.
     pub fn counts(&self, row: usize) -> Option<RowCounts>
         ensures { result ≡ counts_at self.now.pools row }
     {
-        match &self.of_level {
-            PoolsOfLevel::Four(pools) => pools.counts(row),
-            PoolsOfLevel::Five(pools) => pools.counts(row),
-        }
+        at_level!(PoolsOfLevel, &self.of_level, pools => pools.counts(row))
     }
 
     /// `Pools::check_blocks`.
     pub fn check_blocks(&mut self, part: usize, from: u32, most: u32) -> Option<Checked>
-        ensures level { self.new.level ≡ self.old.level }
-        ensures checks { ChecksInPools self.old.pools self.new.pools part from most result }
+        ensures checks { AtLevel self.old self.new (ChecksInPools self.old.pools self.new.pools part from most result) }
     {
-        match &mut self.of_level {
-            PoolsOfLevel::Four(pools) => pools.check_blocks(part, from, most),
-            PoolsOfLevel::Five(pools) => pools.check_blocks(part, from, most),
-        }
+        at_level!(PoolsOfLevel, &mut self.of_level, pools => pools.check_blocks(part, from, most))
     }
 
     /// `Pools::block_at`.
     pub fn block_at(&mut self, part: usize, at: u32) -> Option<PlacedBlock>
-        ensures level { self.new.level ≡ self.old.level }
-        ensures looks { LooksInPools self.old.pools self.new.pools part at result }
+        ensures looks { AtLevel self.old self.new (LooksInPools self.old.pools self.new.pools part at result) }
     {
-        match &mut self.of_level {
-            PoolsOfLevel::Four(pools) => pools.block_at(part, at),
-            PoolsOfLevel::Five(pools) => pools.block_at(part, at),
-        }
+        at_level!(PoolsOfLevel, &mut self.of_level, pools => pools.block_at(part, at))
     }
 }

@@ -6,6 +6,25 @@ use crate::boxed_arena::BoxedArena;
 use std::alloc::Global;
 use std::{mem, ptr};
 
+/// Calls the arena of an open handle where it lies, and notes meanwhile that a call is using it. Refuses another kind of arena.
+///
+/// ```text
+/// on_arena!(pools, Pools, owned => owned.release(name))
+/// ```
+macro_rules! on_arena {
+    ($slot:ident, $kind:ident, $owned:ident => $call:expr) => {{
+        let $crate::any_arena::AnyArena::$kind { is_in_use, owned: $owned } = $slot.inner.lend() else {
+            return $crate::call_fault::CallFault::OtherKind.refusal();
+        };
+        *is_in_use = true;
+        let answer = $call;
+        *is_in_use = false;
+        answer
+    }};
+}
+
+pub(crate) use on_arena;
+
 /// A place for an arena in C's memory: open with one, or closed. All zero, it is closed.
 #[repr(C)]
 #[derive(Drop)]

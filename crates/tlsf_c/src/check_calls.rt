@@ -1,18 +1,18 @@
 //! C's looks at the headers that another call is about to follow.
-ghost use Rattle.std.specs.Prelude.{◌≡◌, true, false, Option};
+ghost use Rattle.std.specs.Prelude.{◌≡◌, true, Option};
 ghost use Rattle.tlsf_heap.specs.Blocks.{want, IsPlace};
 ghost use Rattle.tlsf_heap.specs.Chosen.{NoneFits};
 ghost use Rattle.tlsf_heap.specs.Effects.{ChecksAround, ChecksRequest};
 ghost use Rattle.tlsf_heap.specs.Numbers.{number_of};
 ghost use Rattle.tlsf_heap.specs.declared.checked.Checked.{Checked};
-ghost use Rattle.tlsf_heap.specs.declared.refusal.Refusal.TheVariants.{NoFit, Stale};
+ghost use Rattle.tlsf_heap.specs.declared.refusal.Refusal.TheVariants.{Stale};
 ghost use Rattle.tlsf_c.specs.Checked.{check_number_of, request_number_of, damaged_told};
-ghost use Rattle.tlsf_c.specs.Handles.{counts_in, heap_in, seen_in, level_in, stored_in, StaysOpen, serves};
+ghost use Rattle.tlsf_c.specs.Handles.{counts_in, heap_in, seen_in, level_in, stored_in, serves, OnHeap};
 ghost use Rattle.tlsf_c.specs.Lengths.{saturated};
 ghost use Rattle.tlsf_c.specs.Refusals.{closed, damage};
 
 use crate::call_fault::{CallFault, check_status};
-use crate::heap_slot::HeapSlot;
+use crate::heap_slot::{HeapSlot, on_heap};
 use crate::lengths::saturated;
 use tlsf_heap::Refusal;
 
@@ -28,17 +28,16 @@ use tlsf_heap::Refusal;
 /// ```
 #[unsafe(no_mangle)]
 pub extern "C" fn tlsf_check_around(heap: &mut HeapSlot, at: u32, damaged: &mut u32) -> u32
-    ensures closed { serves heap.old ≡ false → (result ≡ closed) × (heap.new ≡ heap.old) }
-    ensures open { serves heap.old ≡ true → StaysOpen heap.old heap.new }
+    ensures heap { OnHeap heap.old heap.new (result ≡ closed) (counts_in heap.old)
+        ((found : Option Checked) × ChecksAround (stored_in heap.old) at (seen_in heap.old) (seen_in heap.new) found × (result ≡ check_number_of found) × (damaged.new ≡ damaged_told damaged.old found)) }
     ensures sound { serves heap.old ≡ true → IsPlace (heap_in heap.old).blocks at → result ≡ 0 }
     ensures stale { serves heap.old ≡ true → ¬ (IsPlace (heap_in heap.old).blocks at) → result ≡ number_of Stale }
     ensures no_damage { ¬ (result ≡ damage) → damaged.new ≡ damaged.old }
-    ensures counts { serves heap.old ≡ true → counts_in heap.new ≡ counts_in heap.old }
-    ensures checks { serves heap.old ≡ true → (found : Option Checked) × ChecksAround (stored_in heap.old) at (seen_in heap.old) (seen_in heap.new) found × (result ≡ check_number_of found) × (damaged.new ≡ damaged_told damaged.old found) }
 {
     if !heap.serves() {
         return CallFault::Closed.number();
     }
+    // By hand: by `on_heap` the compiler writes the look twice.
     let held = heap.inner.lend();
     held.is_in_use = true;
     let owned = &mut held.heap;
@@ -59,22 +58,16 @@ pub extern "C" fn tlsf_check_around(heap: &mut HeapSlot, at: u32, damaged: &mut 
 /// ```
 #[unsafe(no_mangle)]
 pub extern "C" fn tlsf_check_request(heap: &mut HeapSlot, len: usize, damaged: &mut u32) -> u32
-    ensures closed { serves heap.old ≡ false → (result ≡ closed) × (heap.new ≡ heap.old) }
-    ensures open { serves heap.old ≡ true → StaysOpen heap.old heap.new }
+    ensures heap { OnHeap heap.old heap.new (result ≡ closed) (counts_in heap.old)
+        ((found : Option Checked) × ChecksRequest (level_in heap.old) (stored_in heap.old) (saturated len) (seen_in heap.old) (seen_in heap.new) found × (result ≡ request_number_of found) × (damaged.new ≡ damaged_told damaged.old found)) }
     ensures sound { serves heap.old ≡ true → ¬ (NoneFits (level_in heap.old) (want (saturated len)) (heap_in heap.old).blocks) → result ≡ 0 }
     ensures no_damage { ¬ (result ≡ damage) → damaged.new ≡ damaged.old }
-    ensures counts { serves heap.old ≡ true → counts_in heap.new ≡ counts_in heap.old }
-    ensures checks { serves heap.old ≡ true → (found : Option Checked) × ChecksRequest (level_in heap.old) (stored_in heap.old) (saturated len) (seen_in heap.old) (seen_in heap.new) found × (result ≡ request_number_of found) × (damaged.new ≡ damaged_told damaged.old found) }
 {
     if !heap.serves() {
         return CallFault::Closed.number();
     }
     let len = saturated(len);
-    let held = heap.inner.lend();
-    held.is_in_use = true;
-    let owned = &mut held.heap;
-    let found = owned.check_request(len);
-    held.is_in_use = false;
+    let found = on_heap!(heap, owned => owned.check_request(len));
     if found.is_none() {
         return Refusal::NoFit.number();
     }

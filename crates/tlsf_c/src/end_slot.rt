@@ -6,6 +6,25 @@ use crate::boxed_end::BoxedEnd;
 use std::alloc::Global;
 use std::{mem, ptr};
 
+/// Calls the end of an open handle where it lies, and notes meanwhile that a call is using it. Refuses another kind of end.
+///
+/// ```text
+/// on_end!(poster, Poster, end => put_once(end, name))
+/// ```
+macro_rules! on_end {
+    ($slot:ident, $kind:ident, $end:ident => $call:expr) => {{
+        let $crate::any_end::AnyEnd::$kind { is_in_use, end: $end } = $slot.inner.lend() else {
+            return $crate::call_fault::CallFault::OtherKind.refusal();
+        };
+        *is_in_use = true;
+        let answer = $call;
+        *is_in_use = false;
+        answer
+    }};
+}
+
+pub(crate) use on_end;
+
 /// A place for an end of a lane or of a queue in C's memory: open with one, or closed. All zero, it is closed.
 #[repr(C)]
 #[derive(Drop)]

@@ -1,26 +1,26 @@
 //! C's calls of a heap.
-ghost use Rattle.std.specs.Prelude.{◌≡◌, ℕ, true, false, ◌<◌, ◌≤◌, ◌%◌, length, Result, Ok, Some, None};
+ghost use Rattle.std.specs.Prelude.{◌≡◌, ℕ, true, false, ◌<◌, ◌≤◌, length, Result, Ok, Some, None};
 ghost use denote.RawPtr.{Ptr};
 ghost use Rattle.tlsf_heap.specs.Blocks.{want};
 ghost use Rattle.tlsf_heap.specs.Lawful.{IsRegion};
 ghost use Rattle.tlsf_pool.specs.laws.MixedSizes.{mixed_region};
-ghost use Rattle.tlsf_heap.specs.Calls.{opened, allocated, released, reset, resized, written, read_of, read_answer};
-ghost use Rattle.tlsf_heap.specs.Effects.{Allocates, Locates, Moves, Reads, Releases, Reports, Resets, Resizes, Writes};
+ghost use Rattle.tlsf_heap.specs.Calls.{reset, resized, written, read_of, read_answer};
+ghost use Rattle.tlsf_heap.specs.Effects.{Allocates, Locates, Moves, Reads, Reports, Resets, Resizes, Writes};
 ghost use Rattle.tlsf_heap.specs.InPlace.{IsPayloadCheck};
-ghost use Rattle.tlsf_heap.specs.Moved.{resized_or_moved};
-ghost use Rattle.tlsf_heap.specs.Touched.{allocate_touches, move_touches, read_touches, release_touches, reset_touches, resize_touches, write_touches};
+ghost use Rattle.tlsf_heap.specs.Touched.{allocate_touches, move_touches, read_touches, reset_touches, resize_touches, write_touches};
 ghost use Rattle.tlsf_heap.specs.declared.refusal.Refusal.{Refusal};
 ghost use Rattle.tlsf_heap.specs.WordsInUse.{words_in_use};
-ghost use Rattle.tlsf_c.specs.Counting.{no_counts, counted, counted_request, counted_move};
+ghost use Rattle.tlsf_c.specs.Counting.{counted, counted_request, counted_move, recounted};
 ghost use Rattle.tlsf_c.specs.Lengths.{saturated};
 ghost use Rattle.tlsf_c.specs.Names.{name_of, named, report_in};
-ghost use Rattle.tlsf_c.specs.Handles.{address_in, counts_in, heap_in, seen_in, level_in, touches_in, MayNote, ReleasesIn, StaysOpen, serves};
-ghost use Rattle.tlsf_c.specs.Refusals.{status_of, bad_size, no_memory, closed, in_use, bad_level};
+ghost use Rattle.tlsf_c.specs.Handles.{address_in, counts_in, heap_in, seen_in, level_in, touches_in, ReleasesIn, serves, IsNewHeap, KeepsBeside, NotesOdd, OnHeap, OnHeapBut, Tells, allocated_in, moved_in};
+ghost use Rattle.tlsf_c.specs.Refusals.{status_of, bad_size, closed, bad_level};
+ghost use Rattle.tlsf_c.specs.Serving.{OpensAtLevel};
 
 use crate::any_heap::AnyHeap;
 use crate::call_fault::{CallFault, status};
 use crate::heap_counts::HeapCounts;
-use crate::heap_slot::HeapSlot;
+use crate::heap_slot::{HeapSlot, on_heap};
 use crate::held_heap::HeldHeap;
 use crate::lengths::saturated;
 use crate::names::{BlockName, HeapReport};
@@ -46,18 +46,8 @@ pub extern "C" fn tlsf_open(
     id: u32,
     words: u32,
 ) -> u32
-    ensures in_use { heap.old.is_open ≡ true → result ≡ in_use }
-    ensures bad_level { heap.old.is_open ≡ false → ¬ (level ≡ 4) → ¬ (level ≡ 5) → result ≡ bad_level }
-    ensures bad_size { heap.old.is_open ≡ false → 4 ≤ level → level ≤ 5 → ¬ (IsRegion level words) → result ≡ bad_size }
-    ensures no_memory { heap.old.is_open ≡ false → 4 ≤ level → level ≤ 5 → IsRegion level words → ¬ (result ≡ 0) → result ≡ no_memory }
-    ensures refused { ¬ (result ≡ 0) → heap.new ≡ heap.old }
-    ensures open { result ≡ 0 → serves heap.new ≡ true }
-    ensures heap { result ≡ 0 → (level_in heap.new ≡ level) × (heap_in heap.new ≡ opened id words 0) }
-    ensures base { result ≡ 0 → heap.new.base ≡ address_in heap.new }
-    ensures number { result ≡ 0 → heap.new.number ≡ id }
-    ensures mixed { result ≡ 0 → heap.new.is_mixed ≡ false }
-    ensures counts { result ≡ 0 → counts_in heap.new ≡ no_counts }
-    ensures touches { result ≡ 0 → touches_in heap.new ≤ 10 }
+    ensures refusals { OpensAtLevel heap.old.is_open level (IsRegion level words) heap.old heap.new result }
+    ensures opens { result ≡ 0 → IsNewHeap heap.new level id words }
 {
     if heap.is_open {
         return CallFault::InUse.number();
@@ -129,10 +119,9 @@ pub extern "C" fn tlsf_words(level: u32, most: u32, len: usize, words: &mut u32)
 /// ```
 #[unsafe(no_mangle)]
 pub extern "C" fn tlsf_close(alloc: Global, heap: &mut HeapSlot) -> u32
-    ensures after { result ≡ 0 → heap.new.is_open ≡ false }
-    ensures beside { (heap.new.base ≡ heap.old.base) × (heap.new.number ≡ heap.old.number) × (heap.new.is_mixed ≡ heap.old.is_mixed) }
     ensures closed { serves heap.old ≡ false → (result ≡ closed) × (heap.new ≡ heap.old) }
-    ensures open { serves heap.old ≡ true → result ≡ 0 }
+    ensures open { serves heap.old ≡ true → (result ≡ 0) × (heap.new.is_open ≡ false) }
+    ensures beside { KeepsBeside heap.old heap.new }
 {
     match heap.take_out(alloc) {
         None => CallFault::Closed.number(),
@@ -152,27 +141,17 @@ pub extern "C" fn tlsf_close(alloc: Global, heap: &mut HeapSlot) -> u32
 /// ```
 #[unsafe(no_mangle)]
 pub extern "C" fn tlsf_allocate(heap: &mut HeapSlot, len: usize, name: &mut BlockName) -> u32
-    ensures closed { serves heap.old ≡ false → (result ≡ closed) × (heap.new ≡ heap.old) }
-    ensures open { serves heap.old ≡ true → MayNote heap.old heap.new }
-    ensures status { serves heap.old ≡ true → result ≡ status_of (allocated (level_in heap.old) (heap_in heap.old) (saturated len)).answer }
-    ensures name { serves heap.old ≡ true → result ≡ 0 → (allocated (level_in heap.old) (heap_in heap.old) (saturated len)).answer ≡ Ok (name_of name.new) }
+    ensures heap { OnHeapBut (NotesOdd (saturated len) result) heap.old heap.new (result ≡ closed) (counted_request (counts_in heap.old) (allocated_in heap.old (saturated len)) (saturated len) (heap_in heap.new))
+        (Tells status_of result (allocated_in heap.old (saturated len)) (Allocates allocate_touches (level_in heap.old) (want (saturated len)) (saturated len) (seen_in heap.old) (seen_in heap.new))) }
     ensures no_name { ¬ (result ≡ 0) → name.new ≡ name.old }
-    ensures mixed { serves heap.old ≡ true → result ≡ 0 → want (saturated len) % 2 ≡ 1 → heap.new.is_mixed ≡ true }
-    ensures not_mixed { ¬ (want (saturated len) % 2 ≡ 1) → heap.new.is_mixed ≡ heap.old.is_mixed }
-    ensures no_note { ¬ (result ≡ 0) → heap.new.is_mixed ≡ heap.old.is_mixed }
-    ensures counts { serves heap.old ≡ true → counts_in heap.new ≡ counted_request (counts_in heap.old) (allocated (level_in heap.old) (heap_in heap.old) (saturated len)).answer (saturated len) (heap_in heap.new) }
-    ensures allocates { serves heap.old ≡ true → Allocates allocate_touches (level_in heap.old) (want (saturated len)) (saturated len) (seen_in heap.old) (seen_in heap.new) (allocated (level_in heap.old) (heap_in heap.old) (saturated len)).answer }
+    ensures name { result ≡ 0 → allocated_in heap.old (saturated len) ≡ Ok (name_of name.new) }
 {
     if !heap.serves() {
         // Not by the cold `refusal`, as a release: the longest way would have one instruction more.
         return CallFault::Closed.number();
     }
     let len = saturated(len);
-    let held = heap.inner.lend();
-    held.is_in_use = true;
-    let owned = &mut held.heap;
-    let answer = owned.allocate(len);
-    held.is_in_use = false;
+    let answer = on_heap!(heap, owned => owned.allocate(len));
     match answer {
         Ok(new) => {
             heap.note(len);
@@ -193,11 +172,7 @@ pub extern "C" fn tlsf_allocate(heap: &mut HeapSlot, len: usize, name: &mut Bloc
 /// ```
 #[unsafe(no_mangle)]
 pub extern "C" fn tlsf_release(heap: &mut HeapSlot, name: BlockName) -> u32
-    ensures closed { serves heap.old ≡ false → (result ≡ closed) × (heap.new ≡ heap.old) }
-    ensures open { serves heap.old ≡ true → StaysOpen heap.old heap.new }
-    ensures status { serves heap.old ≡ true → result ≡ status_of (released (heap_in heap.old) (name_of name)).answer }
-    ensures counts { serves heap.old ≡ true → counts_in heap.new ≡ record (counts_in heap.old) { words = words_in_use (heap_in heap.new) } }
-    ensures releases { serves heap.old ≡ true → Releases release_touches (seen_in heap.old) (seen_in heap.new) (name_of name) (released (heap_in heap.old) (name_of name)).answer }
+    ensures { ReleasesIn heap.old heap.new (name_of name) result }
 {
     release_named(heap, name.heap, name.serial, name.at)
 }
@@ -215,13 +190,7 @@ pub(crate) fn release_named(heap: &mut HeapSlot, number: u32, serial: u64, at: u
         at,
         serial,
     };
-    let held = heap.inner.lend();
-    held.is_in_use = true;
-    let owned = &mut held.heap;
-    let answer = owned.release(name);
-    let number = status(answer);
-    held.is_in_use = false;
-    number
+    on_heap!(heap, owned => status(owned.release(name)))
 }
 
 /// Takes all blocks back in one step. No name or pointer of before is of use from then on.
@@ -234,25 +203,15 @@ pub(crate) fn release_named(heap: &mut HeapSlot, number: u32, serial: u64, at: u
 /// ```
 #[unsafe(no_mangle)]
 pub extern "C" fn tlsf_reset(heap: &mut HeapSlot) -> u32
-    ensures closed { serves heap.old ≡ false → (result ≡ closed) × (heap.new ≡ heap.old) }
-    ensures open { serves heap.old ≡ true → StaysOpen heap.old heap.new }
-    ensures status { serves heap.old ≡ true → result ≡ status_of (reset (heap_in heap.old)).answer }
-    ensures counts { serves heap.old ≡ true → counts_in heap.new ≡ record (counts_in heap.old) { words = words_in_use (heap_in heap.new) } }
+    ensures heap { OnHeap heap.old heap.new (result ≡ closed) (recounted (counts_in heap.old) (heap_in heap.new)) (Tells status_of result (reset (heap_in heap.old)).answer (Resets reset_touches (seen_in heap.old) (seen_in heap.new))) }
 
     // Where it is accepted, no word is in use.
     ensures words { serves heap.old ≡ true → result ≡ 0 → (counts_in heap.new).words ≡ 0 }
-    ensures resets { serves heap.old ≡ true → Resets reset_touches (seen_in heap.old) (seen_in heap.new) (reset (heap_in heap.old)).answer }
 {
     if !heap.serves() {
         return CallFault::Closed.number();
     }
-    let held = heap.inner.lend();
-    held.is_in_use = true;
-    let owned = &mut held.heap;
-    let answer = owned.reset();
-    let number = status(answer);
-    held.is_in_use = false;
-    number
+    on_heap!(heap, owned => status(owned.reset()))
 }
 
 /// Makes the payload of the block of that name `len` bytes long, where the block stands. The name stays.
@@ -264,24 +223,14 @@ pub extern "C" fn tlsf_reset(heap: &mut HeapSlot) -> u32
 /// ```
 #[unsafe(no_mangle)]
 pub extern "C" fn tlsf_resize(heap: &mut HeapSlot, name: BlockName, len: usize) -> u32
-    ensures closed { serves heap.old ≡ false → (result ≡ closed) × (heap.new ≡ heap.old) }
-    ensures open { serves heap.old ≡ true → MayNote heap.old heap.new }
-    ensures status { serves heap.old ≡ true → result ≡ status_of (resized (heap_in heap.old) (name_of name) (saturated len)).answer }
-    ensures mixed { serves heap.old ≡ true → result ≡ 0 → want (saturated len) % 2 ≡ 1 → heap.new.is_mixed ≡ true }
-    ensures not_mixed { ¬ (want (saturated len) % 2 ≡ 1) → heap.new.is_mixed ≡ heap.old.is_mixed }
-    ensures no_note { ¬ (result ≡ 0) → heap.new.is_mixed ≡ heap.old.is_mixed }
-    ensures counts { serves heap.old ≡ true → counts_in heap.new ≡ counted (counts_in heap.old) (heap_in heap.new) }
-    ensures resizes { serves heap.old ≡ true → Resizes resize_touches (want (saturated len)) (saturated len) (seen_in heap.old) (seen_in heap.new) (name_of name) (resized (heap_in heap.old) (name_of name) (saturated len)).answer }
+    ensures { OnHeapBut (NotesOdd (saturated len) result) heap.old heap.new (result ≡ closed) (counted (counts_in heap.old) (heap_in heap.new))
+        (Tells status_of result (resized (heap_in heap.old) (name_of name) (saturated len)).answer (Resizes resize_touches (want (saturated len)) (saturated len) (seen_in heap.old) (seen_in heap.new) (name_of name))) }
 {
     if !heap.serves() {
         return CallFault::Closed.number();
     }
     let len = saturated(len);
-    let held = heap.inner.lend();
-    held.is_in_use = true;
-    let owned = &mut held.heap;
-    let answer = owned.resize(name.name(), len);
-    held.is_in_use = false;
+    let answer = on_heap!(heap, owned => owned.resize(name.name(), len));
     match answer {
         Ok(()) => {
             heap.note(len);
@@ -302,26 +251,16 @@ pub extern "C" fn tlsf_resize(heap: &mut HeapSlot, name: BlockName, len: usize) 
 /// ```
 #[unsafe(no_mangle)]
 pub extern "C" fn tlsf_reallocate(heap: &mut HeapSlot, name: &mut BlockName, len: usize) -> u32
-    ensures closed { serves heap.old ≡ false → (result ≡ closed) × (heap.new ≡ heap.old) }
-    ensures open { serves heap.old ≡ true → MayNote heap.old heap.new }
-    ensures status { serves heap.old ≡ true → result ≡ status_of (resized_or_moved (level_in heap.old) (heap_in heap.old) (name_of name.old) (saturated len)).answer }
-    ensures name { serves heap.old ≡ true → result ≡ 0 → (resized_or_moved (level_in heap.old) (heap_in heap.old) (name_of name.old) (saturated len)).answer ≡ Ok (name_of name.new) }
+    ensures heap { OnHeapBut (NotesOdd (saturated len) result) heap.old heap.new (result ≡ closed) (counted_move (counts_in heap.old) (name_of name.old).at (moved_in heap.old (name_of name.old) (saturated len)) (saturated len) (heap_in heap.new))
+        (Tells status_of result (moved_in heap.old (name_of name.old) (saturated len)) (Moves resize_touches move_touches (level_in heap.old) (saturated len) (seen_in heap.old) (seen_in heap.new) (name_of name.old))) }
     ensures no_name { ¬ (result ≡ 0) → name.new ≡ name.old }
-    ensures mixed { serves heap.old ≡ true → result ≡ 0 → want (saturated len) % 2 ≡ 1 → heap.new.is_mixed ≡ true }
-    ensures not_mixed { ¬ (want (saturated len) % 2 ≡ 1) → heap.new.is_mixed ≡ heap.old.is_mixed }
-    ensures no_note { ¬ (result ≡ 0) → heap.new.is_mixed ≡ heap.old.is_mixed }
-    ensures counts { serves heap.old ≡ true → counts_in heap.new ≡ counted_move (counts_in heap.old) (name_of name.old).at (resized_or_moved (level_in heap.old) (heap_in heap.old) (name_of name.old) (saturated len)).answer (saturated len) (heap_in heap.new) }
-    ensures moves { serves heap.old ≡ true → Moves resize_touches move_touches (level_in heap.old) (saturated len) (seen_in heap.old) (seen_in heap.new) (name_of name.old) (resized_or_moved (level_in heap.old) (heap_in heap.old) (name_of name.old) (saturated len)).answer }
+    ensures name { result ≡ 0 → moved_in heap.old (name_of name.old) (saturated len) ≡ Ok (name_of name.new) }
 {
     if !heap.serves() {
         return CallFault::Closed.number();
     }
     let len = saturated(len);
-    let held = heap.inner.lend();
-    held.is_in_use = true;
-    let owned = &mut held.heap;
-    let answer = owned.resize_or_move(name.name(), len);
-    held.is_in_use = false;
+    let answer = on_heap!(heap, owned => owned.resize_or_move(name.name(), len));
     match answer {
         Ok(moved) => {
             heap.note(len);
@@ -342,22 +281,13 @@ pub extern "C" fn tlsf_reallocate(heap: &mut HeapSlot, name: &mut BlockName, len
 /// ```
 #[unsafe(no_mangle)]
 pub extern "C" fn tlsf_write(heap: &mut HeapSlot, name: BlockName, at: u32, bytes: &[u8]) -> u32
-    ensures closed { serves heap.old ≡ false → (result ≡ closed) × (heap.new ≡ heap.old) }
-    ensures open { serves heap.old ≡ true → StaysOpen heap.old heap.new }
-    ensures status { serves heap.old ≡ true → result ≡ status_of (written (heap_in heap.old) (name_of name) at bytes.now).answer }
-    ensures counts { serves heap.old ≡ true → counts_in heap.new ≡ counts_in heap.old }
-    ensures writes { serves heap.old ≡ true → Writes (write_touches (length bytes.now)) (seen_in heap.old) (seen_in heap.new) (name_of name) at bytes.now (written (heap_in heap.old) (name_of name) at bytes.now).answer }
+    ensures { OnHeap heap.old heap.new (result ≡ closed) (counts_in heap.old)
+        (Tells status_of result (written (heap_in heap.old) (name_of name) at bytes.now).answer (Writes (write_touches (length bytes.now)) (seen_in heap.old) (seen_in heap.new) (name_of name) at bytes.now)) }
 {
     if !heap.serves() {
         return CallFault::Closed.number();
     }
-    let held = heap.inner.lend();
-    held.is_in_use = true;
-    let owned = &mut held.heap;
-    let answer = owned.write(name.name(), at, bytes);
-    let number = status(answer);
-    held.is_in_use = false;
-    number
+    on_heap!(heap, owned => status(owned.write(name.name(), at, bytes)))
 }
 
 /// Reads bytes of the payload of the block of that name, from byte `at` of it on, and fills `out` with them.
@@ -370,22 +300,13 @@ pub extern "C" fn tlsf_write(heap: &mut HeapSlot, name: BlockName, at: u32, byte
 /// ```
 #[unsafe(no_mangle)]
 pub extern "C" fn tlsf_read(heap: &mut HeapSlot, name: BlockName, at: u32, out: &mut [u8]) -> u32
-    ensures closed { serves heap.old ≡ false → (result ≡ closed) × (heap.new ≡ heap.old) × (out.new ≡ out.old) }
-    ensures open { serves heap.old ≡ true → StaysOpen heap.old heap.new }
-    ensures status { serves heap.old ≡ true → result ≡ status_of (read_answer (read_of (heap_in heap.old) (name_of name) at (length out.old))) }
-    ensures counts { serves heap.old ≡ true → counts_in heap.new ≡ counts_in heap.old }
-    ensures reads { serves heap.old ≡ true → Reads (read_touches (length out.old)) (seen_in heap.old) (seen_in heap.new) (name_of name) at out.old out.new (read_answer (read_of (heap_in heap.old) (name_of name) at (length out.old))) }
+    ensures { OnHeap heap.old heap.new ((result ≡ closed) × (out.new ≡ out.old)) (counts_in heap.old)
+        (Tells status_of result (read_answer (read_of (heap_in heap.old) (name_of name) at (length out.old))) (Reads (read_touches (length out.old)) (seen_in heap.old) (seen_in heap.new) (name_of name) at out.old out.new)) }
 {
     if !heap.serves() {
         return CallFault::Closed.number();
     }
-    let held = heap.inner.lend();
-    held.is_in_use = true;
-    let owned = &mut held.heap;
-    let answer = owned.read(name.name(), at, out);
-    let number = status(answer);
-    held.is_in_use = false;
-    number
+    on_heap!(heap, owned => status(owned.read(name.name(), at, out)))
 }
 
 /// Tells where the payload of the block of that name lies. The address of the region's first word goes to `base`, and the payload's
@@ -404,22 +325,16 @@ pub extern "C" fn tlsf_locate(
     base: &mut *mut u64,
     len: &mut u32,
 ) -> u32
-    ensures closed { serves heap.old ≡ false → (result ≡ closed) × (heap.new ≡ heap.old) }
-    ensures open { serves heap.old ≡ true → StaysOpen heap.old heap.new }
-    ensures base { serves heap.old ≡ true → result ≡ 0 → base.new ≡ address_in heap.old }
+    ensures heap { OnHeap heap.old heap.new (result ≡ closed) (counts_in heap.old)
+        ((answer : Result (Ptr × ℕ) Refusal) × Tells status_of result answer (Locates (address_in heap.old) (seen_in heap.old) (seen_in heap.new) (name_of name))) }
+    ensures base { result ≡ 0 → base.new ≡ address_in heap.old }
     ensures len { serves heap.old ≡ true → result ≡ 0 → IsPayloadCheck (heap_in heap.old) (name_of name) (Ok len.new) }
     ensures kept { ¬ (result ≡ 0) → (base.new ≡ base.old) × (len.new ≡ len.old) }
-    ensures counts { serves heap.old ≡ true → counts_in heap.new ≡ counts_in heap.old }
-    ensures locates { serves heap.old ≡ true → (answer : Result (Ptr × ℕ) Refusal) × Locates (address_in heap.old) (seen_in heap.old) (seen_in heap.new) (name_of name) answer × (result ≡ status_of answer) }
 {
     if !heap.serves() {
         return CallFault::Closed.number();
     }
-    let held = heap.inner.lend();
-    held.is_in_use = true;
-    let owned = &mut held.heap;
-    let answer = owned.payload(name.name());
-    held.is_in_use = false;
+    let answer = on_heap!(heap, owned => owned.payload(name.name()));
     match answer {
         Ok((at, n)) => {
             *base = at;
@@ -439,19 +354,13 @@ pub extern "C" fn tlsf_locate(
 /// ```
 #[unsafe(no_mangle)]
 pub extern "C" fn tlsf_report(heap: &mut HeapSlot, report: &mut HeapReport) -> u32
-    ensures closed { serves heap.old ≡ false → (result ≡ closed) × (heap.new ≡ heap.old) × (report.new ≡ report.old) }
-    ensures open { serves heap.old ≡ true → (result ≡ 0) × StaysOpen heap.old heap.new }
-    ensures counts { serves heap.old ≡ true → counts_in heap.new ≡ counts_in heap.old }
-    ensures reports { serves heap.old ≡ true → Reports (level_in heap.old) (seen_in heap.old) (seen_in heap.new) (report_in report.new) }
+    ensures { OnHeap heap.old heap.new ((result ≡ closed) × (report.new ≡ report.old)) (counts_in heap.old)
+        ((result ≡ 0) × Reports (level_in heap.old) (seen_in heap.old) (seen_in heap.new) (report_in report.new)) }
 {
     if !heap.serves() {
         return CallFault::Closed.number();
     }
-    let held = heap.inner.lend();
-    held.is_in_use = true;
-    let owned = &mut held.heap;
-    *report = HeapReport::of(owned.report());
-    held.is_in_use = false;
+    on_heap!(heap, owned => *report = HeapReport::of(owned.report()));
     0
 }
 
@@ -464,24 +373,16 @@ pub extern "C" fn tlsf_report(heap: &mut HeapSlot, report: &mut HeapReport) -> u
 /// ```
 #[unsafe(no_mangle)]
 pub extern "C" fn tlsf_counts(heap: &mut HeapSlot, counts: &mut HeapCounts) -> u32
-    ensures closed { serves heap.old ≡ false → (result ≡ closed) × (heap.new ≡ heap.old) × (counts.new ≡ counts.old) }
-    ensures open { serves heap.old ≡ true → (result ≡ 0) × StaysOpen heap.old heap.new }
-    ensures counts { serves heap.old ≡ true → counts.new ≡ counts_in heap.old }
+    ensures heap { OnHeap heap.old heap.new ((result ≡ closed) × (counts.new ≡ counts.old)) (counts_in heap.old)
+        ((result ≡ 0) × (counts.new ≡ counts_in heap.old) × (heap_in heap.new ≡ heap_in heap.old) × (touches_in heap.new ≡ touches_in heap.old)) }
 
     // The words in use are those of all live blocks, as a report finds them.
     ensures words { serves heap.old ≡ true → counts.new.words ≡ words_in_use (heap_in heap.old) }
     ensures most { serves heap.old ≡ true → counts.new.words ≤ counts.new.most_words }
-    ensures heap { serves heap.old ≡ true → heap_in heap.new ≡ heap_in heap.old }
-    ensures stay { serves heap.old ≡ true → counts_in heap.new ≡ counts_in heap.old }
-    ensures touches { serves heap.old ≡ true → touches_in heap.new ≡ touches_in heap.old }
 {
     if !heap.serves() {
         return CallFault::Closed.number();
     }
-    let held = heap.inner.lend();
-    held.is_in_use = true;
-    let owned = &mut held.heap;
-    *counts = owned.counts();
-    held.is_in_use = false;
+    on_heap!(heap, owned => *counts = owned.counts());
     0
 }

@@ -7,6 +7,24 @@ use std::alloc::Global;
 use std::{mem, ptr};
 use tlsf_heap::want;
 
+/// Calls the heap of an open handle where it lies, and notes meanwhile that a call is using it.
+///
+/// ```text
+/// on_heap!(heap, owned => owned.reset())
+/// ```
+macro_rules! on_heap {
+    ($slot:ident, $owned:ident => $call:expr) => {{
+        let held = $slot.inner.lend();
+        held.is_in_use = true;
+        let $owned = &mut held.heap;
+        let answer = $call;
+        held.is_in_use = false;
+        answer
+    }};
+}
+
+pub(crate) use on_heap;
+
 /// A place for a heap in C's memory: open with one, or closed. All zero, it is closed.
 #[repr(C)]
 #[derive(Drop)]
@@ -26,7 +44,7 @@ pub struct HeapSlot {
 unsafe impl Send for HeapSlot {}
 
 impl HeapSlot {
-    ghost use Rattle.tlsf_c.specs.Handles.{serves};
+    ghost use Rattle.tlsf_c.specs.Handles.{KeepsBeside, serves};
     ghost use Rattle.tlsf_heap.specs.Blocks;
 
     /// Whether it is open, and no call is using it.
@@ -61,7 +79,7 @@ impl HeapSlot {
     /// that memory has no other use.
     pub fn take_out(&mut self, alloc: Global) -> Option<Box<HeldHeap, Global>>
         ensures closed { serves self.new ≡ false }
-        ensures beside { (self.new.base ≡ self.old.base) × (self.new.number ≡ self.old.number) × (self.new.is_mixed ≡ self.old.is_mixed) }
+        ensures beside { KeepsBeside self.old self.new }
         ensures none { result ≡ None → (serves self.old ≡ false) × (self.new ≡ self.old) }
         ensures some { (b : _) → result ≡ Some b → (serves self.old ≡ true) × (self.new.is_open ≡ false) × (b.value ≡ record (self.old.inner.value) { is_in_use = true }) }
     {
@@ -80,7 +98,7 @@ impl HeapSlot {
         requires closed { self.old.is_open ≡ false }
         requires idle { boxed.value.is_in_use ≡ false }
         ensures open { serves self.new ≡ true }
-        ensures beside { (self.new.base ≡ self.old.base) × (self.new.number ≡ self.old.number) × (self.new.is_mixed ≡ self.old.is_mixed) }
+        ensures beside { KeepsBeside self.old self.new }
         ensures value { self.new.inner.value ≡ boxed.value }
     {
         self.inner = BoxedHeap::new(boxed);

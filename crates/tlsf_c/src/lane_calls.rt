@@ -1,20 +1,20 @@
 //! C's calls of a lane: one thread puts names in, another takes them out.
-ghost use Rattle.std.specs.Prelude.{◌≡◌, true, false, ◌+◌, ◌*◌, ◌-◌, ◌<◌, ◌≤◌, [], ◌∷◌, ◌++◌, List, Option, length, take, drop};
+ghost use Rattle.std.specs.Prelude.{◌||◌, ◌≡◌, true, ◌+◌, ◌-◌, ◌<◌, ◌≤◌, [], ◌∷◌, ◌++◌, List, Option, length, take, drop};
 ghost use Rattle.tlsf_post.specs.declared.post.Post.{Post};
 ghost use Rattle.tlsf_post.specs.declared.post_end.PostEnd.{PostEnd};
 ghost use Rattle.tlsf_post.specs.declared.take_end.TakeEnd.{TakeEnd};
-ghost use Rattle.tlsf_heap.specs.Touched.{release_touches};
-ghost use Rattle.tlsf_heap.specs.WordsInUse.{words_in_use};
-ghost use Rattle.tlsf_post.specs.Lanes.{posts_sent, free_slots, taken, ready, IsLane};
-ghost use Rattle.tlsf_c.specs.Handles.{counts_in, heap_in, touches_in, touched_in, StaysOpen, post_of, posts_named, post_in, take_in, holds_post, holds_take, sent_in, known_slots, taken_in, ready_in, AreEnds, AreLane, HasTaken, Takes, end_serves, serves};
-ghost use Rattle.tlsf_c.specs.Drains.{drained, LeavesUnnamed};
+ghost use Rattle.tlsf_post.specs.Lanes.{taken, ready, IsLane};
+ghost use Rattle.tlsf_c.specs.Handles.{post_of, posts_named, post_in, take_in, holds_post, holds_take, sent_in, known_slots, taken_in, ready_in, AreEnds, AreLane, HasTaken, Takes, end_serves, serves, ClosesEnd, OnPost, OnTake, PutsNames};
+ghost use Rattle.tlsf_c.specs.Drains.{Drains, DrainsEnd};
 ghost use Rattle.tlsf_c.specs.Names.{name_of};
 ghost use Rattle.tlsf_c.specs.Takes.{HasTakenFirst, TakesFirst};
-ghost use Rattle.tlsf_c.specs.Refusals.{bad_size, no_memory, closed, other_kind, in_use, full, empty};
+ghost use Rattle.tlsf_c.specs.Refusals.{full, empty};
+ghost use Rattle.tlsf_c.specs.Serving.{Opens};
+ghost use Rattle.tlsf_c.specs.declared.end_slot.EndSlot.{EndSlot};
 
 use crate::any_end::AnyEnd;
 use crate::call_fault::CallFault;
-use crate::end_slot::EndSlot;
+use crate::end_slot::{EndSlot, on_end};
 use crate::heap_calls::release_named;
 use crate::heap_slot::HeapSlot;
 use crate::names::BlockName;
@@ -52,15 +52,11 @@ pub extern "C" fn tlsf_lane_open(
     take: &mut EndSlot,
     capacity: u32,
 ) -> u32
+    ensures refusals { Opens {H = EndSlot × EndSlot} (post.old.is_open || take.old.is_open) ((0 < capacity) × (capacity ≤ 1024)) (post.old, take.old) (post.new, take.new) result }
     ensures lane { result ≡ 0 → AreLane post.new take.new }
     ensures none { result ≡ 0 → (sent_in post.new ≡ []) × (taken_in take.new ≡ []) × (known_slots post.new ≡ capacity) }
     ensures opens { result ≡ 0 → (end_serves post.new ≡ true) × (end_serves take.new ≡ true) }
     ensures kinds { result ≡ 0 → (holds_post post.new ≡ true) × (holds_take take.new ≡ true) }
-    ensures refused { ¬ (result ≡ 0) → (post.new ≡ post.old) × (take.new ≡ take.old) }
-    ensures post_in_use { post.old.is_open ≡ true → result ≡ in_use }
-    ensures take_in_use { take.old.is_open ≡ true → result ≡ in_use }
-    ensures bad_size { post.old.is_open ≡ false → take.old.is_open ≡ false → ¬ ((0 < capacity) × (capacity ≤ 1024)) → result ≡ bad_size }
-    ensures no_memory { post.old.is_open ≡ false → take.old.is_open ≡ false → 0 < capacity → capacity ≤ 1024 → ¬ (result ≡ 0) → result ≡ no_memory }
 {
     if post.is_open || take.is_open {
         return CallFault::InUse.number();
@@ -103,10 +99,7 @@ pub extern "C" fn tlsf_lane_open(
 /// ```
 #[unsafe(no_mangle)]
 pub extern "C" fn tlsf_post_close(alloc: Global, post: &mut EndSlot) -> u32
-    ensures after { result ≡ 0 → post.new.is_open ≡ false }
-    ensures closed { end_serves post.old ≡ false → (result ≡ closed) × (post.new ≡ post.old) }
-    ensures other { end_serves post.old ≡ true → holds_post post.old ≡ false → (result ≡ other_kind) × (post.new ≡ post.old) }
-    ensures open { end_serves post.old ≡ true → holds_post post.old ≡ true → result ≡ 0 }
+    ensures { ClosesEnd (holds_post post.old) post.old post.new result }
 {
     if !post.serves() {
         return CallFault::Closed.number();
@@ -127,10 +120,7 @@ pub extern "C" fn tlsf_post_close(alloc: Global, post: &mut EndSlot) -> u32
 /// ```
 #[unsafe(no_mangle)]
 pub extern "C" fn tlsf_take_close(alloc: Global, take: &mut EndSlot) -> u32
-    ensures after { result ≡ 0 → take.new.is_open ≡ false }
-    ensures closed { end_serves take.old ≡ false → (result ≡ closed) × (take.new ≡ take.old) }
-    ensures other { end_serves take.old ≡ true → holds_take take.old ≡ false → (result ≡ other_kind) × (take.new ≡ take.old) }
-    ensures open { end_serves take.old ≡ true → holds_take take.old ≡ true → result ≡ 0 }
+    ensures { ClosesEnd (holds_take take.old) take.old take.new result }
 {
     if !take.serves() {
         return CallFault::Closed.number();
@@ -152,28 +142,16 @@ pub extern "C" fn tlsf_take_close(alloc: Global, take: &mut EndSlot) -> u32
 /// ```
 #[unsafe(no_mangle)]
 pub extern "C" fn tlsf_put(post: &mut EndSlot, name: BlockName) -> u32
-    ensures closed { end_serves post.old ≡ false → (result ≡ closed) × (post.new ≡ post.old) }
-    ensures other { end_serves post.old ≡ true → holds_post post.old ≡ false → (result ≡ other_kind) × (post.new ≡ post.old) }
-    ensures open { end_serves post.old ≡ true → (end_serves post.new ≡ true) × (holds_post post.new ≡ holds_post post.old) }
+    ensures post { OnPost post.old post.new result (¬ (result ≡ 0) → (result ≡ full) × (sent_in post.new ≡ sent_in post.old) × (known_slots post.new ≡ known_slots post.old)) }
     ensures lane { (t : Option TakeEnd) → AreEnds (post_in post.old) t → AreEnds (post_in post.new) t }
-    ensures sent { end_serves post.old ≡ true → result ≡ 0 → sent_in post.new ≡ sent_in post.old ++ post_of (name_of name) ∷ [] }
-    ensures slots { end_serves post.old ≡ true → result ≡ 0 → known_slots post.new ≡ known_slots post.old - 1 }
-    ensures full { end_serves post.old ≡ true → holds_post post.old ≡ true → ¬ (result ≡ 0) → (result ≡ full) × (sent_in post.new ≡ sent_in post.old)
-        × (known_slots post.new ≡ known_slots post.old) }
+    ensures sent { result ≡ 0 → sent_in post.new ≡ sent_in post.old ++ post_of (name_of name) ∷ [] }
+    ensures slots { result ≡ 0 → known_slots post.new ≡ known_slots post.old - 1 }
     ensures succeeds { end_serves post.old ≡ true → 0 < known_slots post.old → result ≡ 0 }
 {
     if !post.serves() {
         return CallFault::Closed.refusal();
     }
-    let AnyEnd::Post { is_in_use, end } = post.inner.lend() else {
-        return CallFault::OtherKind.refusal();
-    };
-    *is_in_use = true;
-    let answer = end.put(Post {
-        from: 0,
-        name: name.name(),
-    });
-    *is_in_use = false;
+    let answer = on_end!(post, Post, end => end.put(Post { from: 0, name: name.name() }));
     match answer {
         Ok(()) => 0,
         Err(_) => CallFault::Full.number(),
@@ -191,34 +169,22 @@ pub extern "C" fn tlsf_put(post: &mut EndSlot, name: BlockName) -> u32
 /// ```
 #[unsafe(no_mangle)]
 pub extern "C" fn tlsf_put_all(post: &mut EndSlot, names: &[BlockName], went: &mut usize) -> u32
-    ensures closed { end_serves post.old ≡ false → (result ≡ closed) × (post.new ≡ post.old) × (went.new ≡ went.old) }
-    ensures other { end_serves post.old ≡ true → holds_post post.old ≡ false → (result ≡ other_kind) × (post.new ≡ post.old) × (went.new ≡ went.old) }
-    ensures open { end_serves post.old ≡ true → holds_post post.old ≡ true → (result ≡ 0) × (end_serves post.new ≡ true) × (holds_post post.new ≡ true) }
+    ensures post { OnPost post.old post.new result (result ≡ 0) }
+    ensures kept { ¬ (result ≡ 0) → went.new ≡ went.old }
     ensures lane { (t : Option TakeEnd) → AreEnds (post_in post.old) t → AreEnds (post_in post.new) t }
-    ensures most { result ≡ 0 → went.new ≤ length names.now }
-    ensures sent { result ≡ 0 → sent_in post.new ≡ sent_in post.old ++ posts_named (take went.new names.now) }
-    ensures slots { result ≡ 0 → known_slots post.new ≡ known_slots post.old - went.new }
+    ensures sent { result ≡ 0 → (went.new ≤ length names.now) × (sent_in post.new ≡ sent_in post.old ++ posts_named (take went.new names.now)) × (known_slots post.new ≡ known_slots post.old - went.new) }
     ensures succeeds { result ≡ 0 → went.new < length names.now → known_slots post.old ≤ went.new }
 {
     if !post.serves() {
         return CallFault::Closed.refusal();
     }
-    let AnyEnd::Post { is_in_use, end } = post.inner.lend() else {
-        return CallFault::OtherKind.refusal();
-    };
-    *is_in_use = true;
-    *went = put_names(end, names);
-    *is_in_use = false;
+    on_end!(post, Post, end => *went = put_names(end, names));
     0
 }
 
 /// Puts names in by slices, until one doesn't go whole, and answers how many went.
 fn put_names(end: &mut PostEnd, names: &[BlockName]) -> usize
-    ensures lane { (t : TakeEnd) → IsLane end.old t → IsLane end.new t }
-    ensures most { result ≤ length names.now }
-    ensures sent { posts_sent end.new ≡ posts_sent end.old ++ posts_named (take result names.now) }
-    ensures slots { free_slots end.new ≡ free_slots end.old - result }
-    ensures succeeds { result < length names.now → free_slots end.old ≤ result }
+    ensures { PutsNames end.old end.new names.now result }
 {
     let mut count = 0;
     let mut is_full = false;
@@ -235,11 +201,7 @@ fn put_names(end: &mut PostEnd, names: &[BlockName]) -> usize
 /// Puts up to 32 names in with one store, from the first on, and answers how many went.
 fn put_slice(end: &mut PostEnd, names: &[BlockName]) -> usize
     requires { length names.now ≤ 32 }
-    ensures lane { (t : TakeEnd) → IsLane end.old t → IsLane end.new t }
-    ensures most { result ≤ length names.now }
-    ensures sent { posts_sent end.new ≡ posts_sent end.old ++ posts_named (take result names.now) }
-    ensures slots { free_slots end.new ≡ free_slots end.old - result }
-    ensures succeeds { result < length names.now → free_slots end.old ≤ result }
+    ensures { PutsNames end.old end.new names.now result }
 {
     let mut posts = [NO_POST; AT_ONCE];
     for (k, block) in names.iter().enumerate() {
@@ -262,25 +224,16 @@ fn put_slice(end: &mut PostEnd, names: &[BlockName]) -> usize
 /// ```
 #[unsafe(no_mangle)]
 pub extern "C" fn tlsf_take(take: &mut EndSlot, name: &mut BlockName) -> u32
-    ensures closed { end_serves take.old ≡ false → (result ≡ closed) × (take.new ≡ take.old) }
-    ensures other { end_serves take.old ≡ true → holds_take take.old ≡ false → (result ≡ other_kind) × (take.new ≡ take.old) }
-    ensures open { end_serves take.old ≡ true → (end_serves take.new ≡ true) × (holds_take take.new ≡ holds_take take.old) }
+    ensures take { OnTake take.old take.new result (¬ (result ≡ 0) → (result ≡ empty) × (taken_in take.new ≡ taken_in take.old)) }
     ensures lane { (p : Option PostEnd) → AreEnds p (take_in take.old) → AreEnds p (take_in take.new) }
-    ensures taken { end_serves take.old ≡ true → result ≡ 0 → Takes (take_in take.old) (take_in take.new) (name_of name.new) }
-    ensures empty { end_serves take.old ≡ true → holds_take take.old ≡ true → ¬ (result ≡ 0) → (result ≡ empty) × (taken_in take.new ≡ taken_in take.old) }
+    ensures taken { result ≡ 0 → Takes (take_in take.old) (take_in take.new) (name_of name.new) }
     ensures no_name { ¬ (result ≡ 0) → name.new ≡ name.old }
     ensures succeeds { end_serves take.old ≡ true → 0 < length (ready_in take.old) → result ≡ 0 }
 {
     if !take.serves() {
         return CallFault::Closed.refusal();
     }
-    let AnyEnd::Take { is_in_use, end } = take.inner.lend() else {
-        return CallFault::OtherKind.refusal();
-    };
-    *is_in_use = true;
-    let answer = take_name(end, name);
-    *is_in_use = false;
-    answer
+    on_end!(take, Take, end => take_name(end, name))
 }
 
 /// Takes the next name out of a lane. It goes to `name`.
@@ -316,28 +269,18 @@ pub extern "C" fn tlsf_take_all(
     names: &mut [BlockName],
     came: &mut usize,
 ) -> u32
-    ensures closed { end_serves take.old ≡ false → (result ≡ closed) × (take.new ≡ take.old) }
-    ensures other { end_serves take.old ≡ true → holds_take take.old ≡ false → (result ≡ other_kind) × (take.new ≡ take.old) }
+    ensures take { OnTake take.old take.new result (¬ (result ≡ 0) → (result ≡ empty) × (0 < length names.old) × (length (ready_in take.old) ≡ 0) × (taken_in take.new ≡ taken_in take.old)) }
     ensures refused { ¬ (result ≡ 0) → (names.new ≡ names.old) × (came.new ≡ came.old) }
-    ensures open { end_serves take.old ≡ true → (end_serves take.new ≡ true) × (holds_take take.new ≡ holds_take take.old) }
     ensures lane { (p : Option PostEnd) → AreEnds p (take_in take.old) → AreEnds p (take_in take.new) }
     ensures taken { result ≡ 0 → TakesFirst (take_in take.old) (take_in take.new) came.new names.new }
     ensures rest { result ≡ 0 → drop came.new names.new ≡ drop came.new names.old }
-    ensures most { result ≡ 0 → (came.new ≤ length names.old) × (came.new ≤ 32) }
-    ensures some { result ≡ 0 → 0 < length names.old → 0 < came.new }
+    ensures most { result ≡ 0 → (came.new ≤ length names.old) × (came.new ≤ 32) × (0 < length names.old → 0 < came.new) }
     ensures ready { result ≡ 0 → came.new < length names.old → came.new < 32 → length (ready_in take.old) ≤ came.new }
-    ensures empty { end_serves take.old ≡ true → holds_take take.old ≡ true → ¬ (result ≡ 0) → (result ≡ empty) × (0 < length names.old)
-        × (length (ready_in take.old) ≡ 0) × (taken_in take.new ≡ taken_in take.old) }
 {
     if !take.serves() {
         return CallFault::Closed.refusal();
     }
-    let AnyEnd::Take { is_in_use, end } = take.inner.lend() else {
-        return CallFault::OtherKind.refusal();
-    };
-    *is_in_use = true;
-    let count = take_names(end, names);
-    *is_in_use = false;
+    let count = on_end!(take, Take, end => take_names(end, names));
     if count == 0 && !names.is_empty() {
         return CallFault::Empty.number();
     }
@@ -380,31 +323,16 @@ pub extern "C" fn tlsf_drain(
     most: u32,
     came: &mut u32,
 ) -> u32
-    ensures heap_closed { serves heap.old ≡ false → result ≡ closed }
-    ensures take_closed { end_serves take.old ≡ false → result ≡ closed }
-    ensures refused { ¬ (result ≡ 0) → (heap.new ≡ heap.old) × (take.new ≡ take.old) × (came.new ≡ came.old) }
-    ensures other { serves heap.old ≡ true → end_serves take.old ≡ true → holds_take take.old ≡ false → result ≡ other_kind }
-    ensures open { serves heap.old ≡ true → end_serves take.old ≡ true → holds_take take.old ≡ true → (result ≡ 0) × StaysOpen heap.old heap.new × (end_serves take.new ≡ true) × (holds_take take.new ≡ true) }
-    ensures drained { result ≡ 0 → (posts : List Post) × (taken_in take.new ≡ taken_in take.old ++ posts)
-        × (heap_in heap.new ≡ drained (heap_in heap.old) posts) × (length posts ≡ came.new) }
+    ensures drains { DrainsEnd heap.old heap.new take.old take.new holds_take result (λ posts. (taken_in take.new ≡ taken_in take.old ++ posts) × (length posts ≡ came.new)) }
+    ensures lane { (p : Option PostEnd) → AreEnds p (take_in take.old) → AreEnds p (take_in take.new) }
     ensures most { result ≡ 0 → came.new ≤ most }
     ensures ready { result ≡ 0 → came.new < most → length (ready_in take.old) ≤ came.new }
-    ensures lane { (p : Option PostEnd) → AreEnds p (take_in take.old) → AreEnds p (take_in take.new) }
-    ensures no_counts { result ≡ 0 → came.new ≡ 0 → counts_in heap.new ≡ counts_in heap.old }
-    ensures counts { result ≡ 0 → 0 < came.new → counts_in heap.new ≡ record (counts_in heap.old) { words = words_in_use (heap_in heap.new) } }
-    ensures touches { result ≡ 0 → touches_in heap.new ≤ touches_in heap.old + release_touches * came.new }
-    ensures leaves { result ≡ 0 → (posts : List Post) × (taken_in take.new ≡ taken_in take.old ++ posts)
-        × LeavesUnnamed (heap_in heap.old).blocks posts (touched_in heap.old) (touched_in heap.new) }
+    ensures kept { ¬ (result ≡ 0) → came.new ≡ came.old }
 {
     if !heap.serves() || !take.serves() {
         return CallFault::Closed.refusal();
     }
-    let AnyEnd::Take { is_in_use, end } = take.inner.lend() else {
-        return CallFault::OtherKind.refusal();
-    };
-    *is_in_use = true;
-    *came = drain_names(heap, end, most);
-    *is_in_use = false;
+    on_end!(take, Take, end => *came = drain_names(heap, end, most));
     0
 }
 
@@ -412,15 +340,10 @@ pub extern "C" fn tlsf_drain(
 /// Answers how many came. The heap is open.
 fn drain_names(heap: &mut HeapSlot, end: &mut TakeEnd, most: u32) -> u32
     requires { serves heap.old ≡ true }
-    ensures open { StaysOpen heap.old heap.new }
-    ensures drained { (posts : List Post) × (taken end.new ≡ taken end.old ++ posts) × (heap_in heap.new ≡ drained (heap_in heap.old) posts) × (length posts ≡ result)
-        × LeavesUnnamed (heap_in heap.old).blocks posts (touched_in heap.old) (touched_in heap.new) }
+    ensures drained { (posts : List Post) × ((taken end.new ≡ taken end.old ++ posts) × (length posts ≡ result)) × Drains heap.old heap.new posts }
     ensures most { result ≤ most }
     ensures ready { result < most → length (ready end.old) ≤ result }
     ensures lane { (p : PostEnd) → IsLane p end.old → IsLane p end.new }
-    ensures no_counts { result ≡ 0 → counts_in heap.new ≡ counts_in heap.old }
-    ensures counts { 0 < result → counts_in heap.new ≡ record (counts_in heap.old) { words = words_in_use (heap_in heap.new) } }
-    ensures touches { touches_in heap.new ≤ touches_in heap.old + release_touches * result }
 {
     let mut posts = [NO_POST; AT_ONCE];
     let mut count = 0;
@@ -454,12 +377,7 @@ fn left_after(left: u32, wanted: usize, taken: usize) -> u32
 /// Releases the block that each post names, in their order, whatever the heap answers. The heap is open.
 pub(crate) fn release_posts(heap: &mut HeapSlot, posts: &[Post])
     requires { serves heap.old ≡ true }
-    ensures open { StaysOpen heap.old heap.new }
-    ensures drained { heap_in heap.new ≡ drained (heap_in heap.old) posts.now }
-    ensures no_counts { length posts.now ≡ 0 → counts_in heap.new ≡ counts_in heap.old }
-    ensures counts { 0 < length posts.now → counts_in heap.new ≡ record (counts_in heap.old) { words = words_in_use (heap_in heap.new) } }
-    ensures touches { touches_in heap.new ≤ touches_in heap.old + release_touches * length posts.now }
-    ensures leaves { LeavesUnnamed (heap_in heap.old).blocks posts.now (touched_in heap.old) (touched_in heap.new) }
+    ensures { Drains heap.old heap.new posts.now }
 {
     for post in posts {
         let Name {

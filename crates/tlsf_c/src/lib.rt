@@ -10,6 +10,7 @@ mod any_heap;
 mod any_offsets;
 mod any_pools;
 mod arena_slot;
+mod at_level;
 mod boxed_arena;
 mod boxed_end;
 mod boxed_heap;

@@ -1,5 +1,5 @@
 //! C's calls of an arena of offsets, into memory that the processor never touches.
-ghost use Rattle.std.specs.Prelude.{◌≡◌, ◌≢◌, true, false, ◌+◌, ◌*◌, ◌<◌, ◌≤◌, length};
+ghost use Rattle.std.specs.Prelude.{◌≡◌, ◌≢◌, true, ◌+◌, ◌*◌, ◌<◌, ◌≤◌, length};
 ghost use Rattle.tlsf_heap.specs.Calls.{opened, allocated_words, released, resized_words};
 ghost use Rattle.tlsf_heap.specs.Effects.{Allocates, Releases, Resizes};
 ghost use Rattle.tlsf_heap.specs.Lawful.{IsRegion};
@@ -7,13 +7,14 @@ ghost use Rattle.tlsf_heap.specs.Touched.{allocate_touches, release_touches, res
 ghost use Rattle.tlsf_offsets.specs.Offsets.{IsHeld, KeepsOthers, span_units, usage_of, seen_of};
 ghost use Rattle.tlsf_offsets.specs.declared.span.Span.{Span};
 ghost use Rattle.tlsf_c.specs.Names.{name_of};
-ghost use Rattle.tlsf_c.specs.OffsetHandles.{offsets_in, offsets_level, holds_offsets, OffsetsStayOpen, span_of, usage_told};
-ghost use Rattle.tlsf_c.specs.Refusals.{status_of, bad_size, no_memory, closed, other_kind, in_use, bad_level};
-ghost use Rattle.tlsf_c.specs.Serving.{arena_serves};
+ghost use Rattle.tlsf_c.specs.OffsetHandles.{offsets_in, offsets_level, holds_offsets, span_of, usage_told, OnOffsets};
+ghost use Rattle.tlsf_c.specs.Refusals.{status_of};
+ghost use Rattle.tlsf_c.specs.Serving.{arena_serves, ClosesArena, OnKind, OpensAtLevel};
+ghost use Rattle.tlsf_c.specs.Handles.{Tells};
 
 use crate::any_arena::AnyArena;
 use crate::any_offsets::AnyOffsets;
-use crate::arena_slot::ArenaSlot;
+use crate::arena_slot::{ArenaSlot, on_arena};
 use crate::call_fault::CallFault;
 use crate::names::BlockName;
 use crate::spans::{OffsetSpan, OffsetUsage};
@@ -38,14 +39,9 @@ pub extern "C" fn tlsf_offsets_open(
     unit: u32,
     units: u32,
 ) -> u32
-    ensures in_use { offsets.old.is_open ≡ true → result ≡ in_use }
-    ensures bad_level { offsets.old.is_open ≡ false → ¬ (level ≡ 4) → ¬ (level ≡ 5) → result ≡ bad_level }
-    ensures bad_size { offsets.old.is_open ≡ false → 4 ≤ level → level ≤ 5 → ¬ ((0 < unit) × IsRegion level units) → result ≡ bad_size }
-    ensures no_memory { offsets.old.is_open ≡ false → 4 ≤ level → level ≤ 5 → (0 < unit) × IsRegion level units → ¬ (result ≡ 0) → result ≡ no_memory }
-    ensures refused { ¬ (result ≡ 0) → offsets.new ≡ offsets.old }
-    ensures open { result ≡ 0 → (arena_serves offsets.new ≡ true) × (holds_offsets offsets.new ≡ true) }
-    ensures arena { result ≡ 0 → (offsets_level offsets.new ≡ level) × ((offsets_in offsets.new).heap ≡ opened id units 0) × ((offsets_in offsets.new).unit ≡ unit) }
-    ensures touches { result ≡ 0 → (offsets_in offsets.new).touches ≤ 10 }
+    ensures refusals { OpensAtLevel offsets.old.is_open level ((0 < unit) × IsRegion level units) offsets.old offsets.new result }
+    ensures opens { result ≡ 0 → (arena_serves offsets.new ≡ true) × (holds_offsets offsets.new ≡ true) }
+    ensures arena { result ≡ 0 → (offsets_level offsets.new ≡ level) × ((offsets_in offsets.new).heap ≡ opened id units 0) × ((offsets_in offsets.new).unit ≡ unit) × ((offsets_in offsets.new).touches ≤ 10) }
 {
     if offsets.is_open {
         return CallFault::InUse.number();
@@ -80,10 +76,7 @@ pub extern "C" fn tlsf_offsets_open(
 /// ```
 #[unsafe(no_mangle)]
 pub extern "C" fn tlsf_offsets_close(alloc: Global, offsets: &mut ArenaSlot) -> u32
-    ensures after { result ≡ 0 → offsets.new.is_open ≡ false }
-    ensures closed { arena_serves offsets.old ≡ false → (result ≡ closed) × (offsets.new ≡ offsets.old) }
-    ensures other { arena_serves offsets.old ≡ true → holds_offsets offsets.old ≡ false → (result ≡ other_kind) × (offsets.new ≡ offsets.old) }
-    ensures open { arena_serves offsets.old ≡ true → holds_offsets offsets.old ≡ true → result ≡ 0 }
+    ensures { ClosesArena (holds_offsets offsets.old) offsets.old offsets.new result }
 {
     if !offsets.serves() {
         return CallFault::Closed.number();
@@ -109,27 +102,18 @@ pub extern "C" fn tlsf_offsets_allocate(
     bytes: u64,
     span: &mut OffsetSpan,
 ) -> u32
-    ensures closed { arena_serves offsets.old ≡ false → (result ≡ closed) × (offsets.new ≡ offsets.old) }
-    ensures other { arena_serves offsets.old ≡ true → holds_offsets offsets.old ≡ false → (result ≡ other_kind) × (offsets.new ≡ offsets.old) }
-    ensures open { arena_serves offsets.old ≡ true → OffsetsStayOpen offsets.old offsets.new }
-    ensures status { arena_serves offsets.old ≡ true → holds_offsets offsets.old ≡ true → result ≡ status_of (allocated_words (offsets_level offsets.old) (offsets_in offsets.old).heap (span_units (offsets_in offsets.old).unit bytes) 0).answer }
-    ensures allocates { arena_serves offsets.old ≡ true → holds_offsets offsets.old ≡ true → Allocates (allocate_touches + 1) (offsets_level offsets.old) (span_units (offsets_in offsets.old).unit bytes) 0 (seen_of (offsets_in offsets.old)) (seen_of (offsets_in offsets.new)) (allocated_words (offsets_level offsets.old) (offsets_in offsets.old).heap (span_units (offsets_in offsets.old).unit bytes) 0).answer }
-    ensures refused { ¬ (result ≡ 0) → arena_serves offsets.old ≡ true → (offsets_in offsets.new).heap ≡ (offsets_in offsets.old).heap }
-    ensures no_span { ¬ (result ≡ 0) → span.new ≡ span.old }
+    ensures offsets { OnOffsets offsets.old offsets.new result (Tells status_of result (allocated_words (offsets_level offsets.old) (offsets_in offsets.old).heap (span_units (offsets_in offsets.old).unit bytes) 0).answer (Allocates (allocate_touches + 1) (offsets_level offsets.old) (span_units (offsets_in offsets.old).unit bytes) 0 (seen_of (offsets_in offsets.old)) (seen_of (offsets_in offsets.new)))
+        × (¬ (result ≡ 0) → (offsets_in offsets.new).heap ≡ (offsets_in offsets.old).heap)
+        × ((other : Span) → IsHeld (offsets_in offsets.old) other → IsHeld (offsets_in offsets.new) other)) }
     ensures held { result ≡ 0 → IsHeld (offsets_in offsets.new) (span_of span.new) }
     ensures enough { result ≡ 0 → bytes ≤ span.new.size }
-    ensures others { arena_serves offsets.old ≡ true → (other : Span) → IsHeld (offsets_in offsets.old) other → IsHeld (offsets_in offsets.new) other }
     ensures fresh { result ≡ 0 → (other : Span) → IsHeld (offsets_in offsets.old) other → other.name ≢ name_of span.new.name }
+    ensures no_span { ¬ (result ≡ 0) → span.new ≡ span.old }
 {
     if !offsets.serves() {
         return CallFault::Closed.refusal();
     }
-    let AnyArena::Offsets { is_in_use, owned } = offsets.inner.lend() else {
-        return CallFault::OtherKind.refusal();
-    };
-    *is_in_use = true;
-    let answer = owned.allocate(bytes);
-    *is_in_use = false;
+    let answer = on_arena!(offsets, Offsets, owned => owned.allocate(bytes));
     match answer {
         Ok(given) => {
             *span = OffsetSpan::of(given);
@@ -150,23 +134,14 @@ pub extern "C" fn tlsf_offsets_allocate(
 /// ```
 #[unsafe(no_mangle)]
 pub extern "C" fn tlsf_offsets_release(offsets: &mut ArenaSlot, name: BlockName) -> u32
-    ensures closed { arena_serves offsets.old ≡ false → (result ≡ closed) × (offsets.new ≡ offsets.old) }
-    ensures other { arena_serves offsets.old ≡ true → holds_offsets offsets.old ≡ false → (result ≡ other_kind) × (offsets.new ≡ offsets.old) }
-    ensures open { arena_serves offsets.old ≡ true → OffsetsStayOpen offsets.old offsets.new }
-    ensures status { arena_serves offsets.old ≡ true → holds_offsets offsets.old ≡ true → result ≡ status_of (released (offsets_in offsets.old).heap (name_of name)).answer }
-    ensures releases { arena_serves offsets.old ≡ true → holds_offsets offsets.old ≡ true → Releases release_touches (seen_of (offsets_in offsets.old)) (seen_of (offsets_in offsets.new)) (name_of name) (released (offsets_in offsets.old).heap (name_of name)).answer }
-    ensures others { arena_serves offsets.old ≡ true → KeepsOthers (offsets_in offsets.old) (offsets_in offsets.new) (name_of name) }
+    ensures offsets { OnOffsets offsets.old offsets.new result (Tells status_of result (released (offsets_in offsets.old).heap (name_of name)).answer (Releases release_touches (seen_of (offsets_in offsets.old)) (seen_of (offsets_in offsets.new)) (name_of name))
+        × KeepsOthers (offsets_in offsets.old) (offsets_in offsets.new) (name_of name)) }
     ensures gone { result ≡ 0 → (span : Span) → IsHeld (offsets_in offsets.new) span → span.name ≢ name_of name }
 {
     if !offsets.serves() {
         return CallFault::Closed.refusal();
     }
-    let AnyArena::Offsets { is_in_use, owned } = offsets.inner.lend() else {
-        return CallFault::OtherKind.refusal();
-    };
-    *is_in_use = true;
-    let answer = owned.release(name.name());
-    *is_in_use = false;
+    let answer = on_arena!(offsets, Offsets, owned => owned.release(name.name()));
     match answer {
         Ok(()) => 0,
         Err(why) => why.number(),
@@ -187,25 +162,16 @@ pub extern "C" fn tlsf_offsets_resize(
     span: &mut OffsetSpan,
     bytes: u64,
 ) -> u32
-    ensures closed { arena_serves offsets.old ≡ false → (result ≡ closed) × (offsets.new ≡ offsets.old) }
-    ensures other { arena_serves offsets.old ≡ true → holds_offsets offsets.old ≡ false → (result ≡ other_kind) × (offsets.new ≡ offsets.old) }
-    ensures open { arena_serves offsets.old ≡ true → OffsetsStayOpen offsets.old offsets.new }
-    ensures status { arena_serves offsets.old ≡ true → holds_offsets offsets.old ≡ true → result ≡ status_of (resized_words (offsets_in offsets.old).heap (name_of span.old.name) (span_units (offsets_in offsets.old).unit bytes) 0).answer }
-    ensures resizes { arena_serves offsets.old ≡ true → holds_offsets offsets.old ≡ true → Resizes (resize_touches + 1) (span_units (offsets_in offsets.old).unit bytes) 0 (seen_of (offsets_in offsets.old)) (seen_of (offsets_in offsets.new)) (name_of span.old.name) (resized_words (offsets_in offsets.old).heap (name_of span.old.name) (span_units (offsets_in offsets.old).unit bytes) 0).answer }
+    ensures offsets { OnOffsets offsets.old offsets.new result (Tells status_of result (resized_words (offsets_in offsets.old).heap (name_of span.old.name) (span_units (offsets_in offsets.old).unit bytes) 0).answer (Resizes (resize_touches + 1) (span_units (offsets_in offsets.old).unit bytes) 0 (seen_of (offsets_in offsets.old)) (seen_of (offsets_in offsets.new)) (name_of span.old.name))
+        × KeepsOthers (offsets_in offsets.old) (offsets_in offsets.new) (name_of span.old.name)) }
+    ensures enough { result ≡ 0 → bytes ≤ span.new.size }
     ensures no_span { ¬ (result ≡ 0) → span.new ≡ span.old }
     ensures held { result ≡ 0 → IsHeld (offsets_in offsets.new) (span_of span.new) × (span.new.name ≡ span.old.name) }
-    ensures enough { result ≡ 0 → bytes ≤ span.new.size }
-    ensures others { arena_serves offsets.old ≡ true → KeepsOthers (offsets_in offsets.old) (offsets_in offsets.new) (name_of span.old.name) }
 {
     if !offsets.serves() {
         return CallFault::Closed.refusal();
     }
-    let AnyArena::Offsets { is_in_use, owned } = offsets.inner.lend() else {
-        return CallFault::OtherKind.refusal();
-    };
-    *is_in_use = true;
-    let answer = owned.resize(span.name.name(), bytes);
-    *is_in_use = false;
+    let answer = on_arena!(offsets, Offsets, owned => owned.resize(span.name.name(), bytes));
     match answer {
         Ok(grown) => {
             *span = OffsetSpan::of(grown);
@@ -224,22 +190,16 @@ pub extern "C" fn tlsf_offsets_resize(
 /// ```
 #[unsafe(no_mangle)]
 pub extern "C" fn tlsf_offsets_report(offsets: &mut ArenaSlot, usage: &mut OffsetUsage) -> u32
-    ensures closed { arena_serves offsets.old ≡ false → (result ≡ closed) × (offsets.new ≡ offsets.old) × (usage.new ≡ usage.old) }
-    ensures other { arena_serves offsets.old ≡ true → holds_offsets offsets.old ≡ false → (result ≡ other_kind) × (offsets.new ≡ offsets.old) × (usage.new ≡ usage.old) }
-    ensures open { arena_serves offsets.old ≡ true → holds_offsets offsets.old ≡ true → (result ≡ 0) × (arena_serves offsets.new ≡ true) × (holds_offsets offsets.new ≡ true) }
+    ensures offsets { OnKind (arena_serves offsets.old) (holds_offsets offsets.old) offsets.old offsets.new result ((result ≡ 0) × (arena_serves offsets.new ≡ true) × (holds_offsets offsets.new ≡ true)) }
     ensures usage { result ≡ 0 → usage_told usage.new ≡ usage_of (offsets_level offsets.old) (offsets_in offsets.old) }
+    ensures kept { ¬ (result ≡ 0) → usage.new ≡ usage.old }
     ensures same { arena_serves offsets.old ≡ true → (offsets_level offsets.new ≡ offsets_level offsets.old) × ((offsets_in offsets.new).heap ≡ (offsets_in offsets.old).heap) × ((offsets_in offsets.new).unit ≡ (offsets_in offsets.old).unit) }
     ensures touches { arena_serves offsets.old ≡ true → (offsets_in offsets.new).touches ≤ (offsets_in offsets.old).touches + 2 * length (offsets_in offsets.old).heap.blocks }
 {
     if !offsets.serves() {
         return CallFault::Closed.refusal();
     }
-    let AnyArena::Offsets { is_in_use, owned } = offsets.inner.lend() else {
-        return CallFault::OtherKind.refusal();
-    };
-    *is_in_use = true;
-    let found = owned.usage();
-    *is_in_use = false;
+    let found = on_arena!(offsets, Offsets, owned => owned.usage());
     *usage = OffsetUsage::of(found);
     0
 }

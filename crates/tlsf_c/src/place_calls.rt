@@ -1,10 +1,9 @@
 //! C's calls of a heap by place, the number of the word at which a block begins. They are for a caller who has its address and
 //! keeps no name.
-ghost use Rattle.std.specs.Prelude.{◌≡◌, true, false, max, Ok, Option, Some, None};
+ghost use Rattle.std.specs.Prelude.{◌≡◌, true, max, Ok, Option, Some, None};
 ghost use Rattle.tlsf_heap.specs.ByPlace.{name_at, released_by_place, resized_or_moved_by_place};
 ghost use Rattle.tlsf_heap.specs.Aligned.{words_aligned};
 ghost use Rattle.tlsf_heap.specs.Blocks.{want, IsPlace};
-ghost use Rattle.tlsf_heap.specs.Calls.{allocated};
 ghost use Rattle.tlsf_heap.specs.Checks.{FindsSound};
 ghost use Rattle.tlsf_heap.specs.Effects.{AllocatesAligned, AllocatesUnset, ChecksBlocks, Looks, MovesUnsetAt, ReleasesAt};
 ghost use Rattle.tlsf_heap.specs.Numbers.{number_of};
@@ -15,9 +14,8 @@ ghost use Rattle.tlsf_heap.specs.declared.checked.Checked.TheVariants.{Sound};
 ghost use Rattle.tlsf_heap.specs.declared.placed_block.PlacedBlock.{PlacedBlock};
 ghost use Rattle.tlsf_heap.specs.declared.refusal.Refusal.TheVariants.{Stale};
 ghost use Rattle.tlsf_c.specs.Checked.{check_number_of, next_told, damaged_told};
-ghost use Rattle.tlsf_c.specs.Handles.{counts_in, heap_in, seen_in, level_in, stored_in, StaysOpen, serves};
-ghost use Rattle.tlsf_heap.specs.WordsInUse.{words_in_use};
-ghost use Rattle.tlsf_c.specs.Counting.{counted_request, counted_move};
+ghost use Rattle.tlsf_c.specs.Handles.{counts_in, heap_in, seen_in, level_in, stored_in, serves, OnHeap, Tells, allocated_in};
+ghost use Rattle.tlsf_c.specs.Counting.{counted_request, counted_move, recounted};
 ghost use Rattle.tlsf_c.specs.Lengths.{saturated};
 ghost use Rattle.tlsf_c.specs.Names.{name_of, info_of, not_placed, placed_name};
 ghost use Rattle.tlsf_c.specs.PlaceCalls.{length_at};
@@ -25,7 +23,7 @@ ghost use Rattle.tlsf_heap.specs.Touched.{allocate_aligned_touches, allocate_uns
 ghost use Rattle.tlsf_c.specs.Refusals.{status_of, closed, damage};
 
 use crate::call_fault::{CallFault, check_status, status};
-use crate::heap_slot::HeapSlot;
+use crate::heap_slot::{HeapSlot, on_heap};
 use crate::lengths::saturated;
 use crate::names::{BlockInfo, BlockName, PlacedName};
 use tlsf_heap::{Content, PlacedBlock, Refusal};
@@ -40,21 +38,14 @@ use tlsf_heap::{Content, PlacedBlock, Refusal};
 /// ```
 #[unsafe(no_mangle)]
 pub extern "C" fn tlsf_allocate_place(heap: &mut HeapSlot, len: usize) -> PlacedName
-    ensures closed { serves heap.old ≡ false → (result ≡ not_placed closed) × (heap.new ≡ heap.old) }
-    ensures open { serves heap.old ≡ true → StaysOpen heap.old heap.new }
-    ensures placed { serves heap.old ≡ true → result ≡ placed_name (allocated (level_in heap.old) (heap_in heap.old) (saturated len)).answer }
-    ensures counts { serves heap.old ≡ true → counts_in heap.new ≡ counted_request (counts_in heap.old) (allocated (level_in heap.old) (heap_in heap.old) (saturated len)).answer (saturated len) (heap_in heap.new) }
-    ensures allocates { serves heap.old ≡ true → AllocatesUnset allocate_unset_touches (level_in heap.old) (saturated len) (seen_in heap.old) (seen_in heap.new) (stored_in heap.new) (allocated (level_in heap.old) (heap_in heap.old) (saturated len)).answer }
+    ensures { OnHeap heap.old heap.new (result ≡ not_placed closed) (counted_request (counts_in heap.old) (allocated_in heap.old (saturated len)) (saturated len) (heap_in heap.new))
+        (Tells placed_name result (allocated_in heap.old (saturated len)) (AllocatesUnset allocate_unset_touches (level_in heap.old) (saturated len) (seen_in heap.old) (seen_in heap.new) (stored_in heap.new))) }
 {
     if !heap.serves() {
         return PlacedName::refusal(CallFault::Closed.number());
     }
     let len = saturated(len);
-    let held = heap.inner.lend();
-    held.is_in_use = true;
-    let owned = &mut held.heap;
-    let answer = owned.allocate_unset(len);
-    held.is_in_use = false;
+    let answer = on_heap!(heap, owned => owned.allocate_unset(len));
     PlacedName::of(answer)
 }
 
@@ -75,21 +66,14 @@ pub extern "C" fn tlsf_allocate_aligned(
     step: u32,
     skew: u32,
 ) -> PlacedName
-    ensures closed { serves heap.old ≡ false → (result ≡ not_placed closed) × (heap.new ≡ heap.old) }
-    ensures open { serves heap.old ≡ true → StaysOpen heap.old heap.new }
-    ensures placed { serves heap.old ≡ true → result ≡ placed_name (words_aligned (level_in heap.old) (heap_in heap.old) (want (saturated len)) (max step 1) skew).answer }
-    ensures counts { serves heap.old ≡ true → counts_in heap.new ≡ counted_request (counts_in heap.old) (words_aligned (level_in heap.old) (heap_in heap.old) (want (saturated len)) (max step 1) skew).answer (saturated len) (heap_in heap.new) }
-    ensures allocates { serves heap.old ≡ true → AllocatesAligned allocate_aligned_touches (level_in heap.old) (saturated len) (max step 1) skew (seen_in heap.old) (seen_in heap.new) (stored_in heap.new) (words_aligned (level_in heap.old) (heap_in heap.old) (want (saturated len)) (max step 1) skew).answer }
+    ensures { OnHeap heap.old heap.new (result ≡ not_placed closed) (counted_request (counts_in heap.old) (words_aligned (level_in heap.old) (heap_in heap.old) (want (saturated len)) (max step 1) skew).answer (saturated len) (heap_in heap.new))
+        (Tells placed_name result (words_aligned (level_in heap.old) (heap_in heap.old) (want (saturated len)) (max step 1) skew).answer (AllocatesAligned allocate_aligned_touches (level_in heap.old) (saturated len) (max step 1) skew (seen_in heap.old) (seen_in heap.new) (stored_in heap.new))) }
 {
     if !heap.serves() {
         return PlacedName::refusal(CallFault::Closed.number());
     }
     let len = saturated(len);
-    let held = heap.inner.lend();
-    held.is_in_use = true;
-    let owned = &mut held.heap;
-    let answer = owned.allocate_aligned(len, step, skew);
-    held.is_in_use = false;
+    let answer = on_heap!(heap, owned => owned.allocate_aligned(len, step, skew));
     PlacedName::of(answer)
 }
 
@@ -104,22 +88,13 @@ pub extern "C" fn tlsf_allocate_aligned(
 /// ```
 #[unsafe(no_mangle)]
 pub extern "C" fn tlsf_release_place(heap: &mut HeapSlot, at: u32) -> u32
-    ensures closed { serves heap.old ≡ false → (result ≡ closed) × (heap.new ≡ heap.old) }
-    ensures open { serves heap.old ≡ true → StaysOpen heap.old heap.new }
-    ensures status { serves heap.old ≡ true → result ≡ status_of (released_by_place (heap_in heap.old) at).answer }
-    ensures counts { serves heap.old ≡ true → counts_in heap.new ≡ record (counts_in heap.old) { words = words_in_use (heap_in heap.new) } }
-    ensures releases { serves heap.old ≡ true → ReleasesAt release_at_touches (seen_in heap.old) (seen_in heap.new) at (released_by_place (heap_in heap.old) at).answer }
+    ensures { OnHeap heap.old heap.new (result ≡ closed) (recounted (counts_in heap.old) (heap_in heap.new))
+        (Tells status_of result (released_by_place (heap_in heap.old) at).answer (ReleasesAt release_at_touches (seen_in heap.old) (seen_in heap.new) at)) }
 {
     if !heap.serves() {
         return CallFault::Closed.refusal();
     }
-    let held = heap.inner.lend();
-    held.is_in_use = true;
-    let owned = &mut held.heap;
-    let answer = owned.release_at(at);
-    let number = status(answer);
-    held.is_in_use = false;
-    number
+    on_heap!(heap, owned => status(owned.release_at(at)))
 }
 
 /// Makes the payload of the live block that begins at a place `len` bytes long. The block stays where it stands, or becomes another
@@ -139,24 +114,16 @@ pub extern "C" fn tlsf_resize_place(
     len: usize,
     new_at: &mut u32,
 ) -> u32
-    ensures closed { serves heap.old ≡ false → (result ≡ closed) × (heap.new ≡ heap.old) }
-    ensures open { serves heap.old ≡ true → StaysOpen heap.old heap.new }
-    ensures status { serves heap.old ≡ true → result ≡ status_of (resized_or_moved_by_place (level_in heap.old) (heap_in heap.old) at (saturated len)).answer }
-    ensures place { serves heap.old ≡ true → result ≡ 0 → (name : Name)
-        × ((resized_or_moved_by_place (level_in heap.old) (heap_in heap.old) at (saturated len)).answer ≡ Ok name) × (name.at ≡ new_at.new) }
+    ensures heap { OnHeap heap.old heap.new (result ≡ closed) (counted_move (counts_in heap.old) at (resized_or_moved_by_place (level_in heap.old) (heap_in heap.old) at (saturated len)).answer (saturated len) (heap_in heap.new))
+        (Tells status_of result (resized_or_moved_by_place (level_in heap.old) (heap_in heap.old) at (saturated len)).answer (MovesUnsetAt resize_unset_touches move_unset_touches (level_in heap.old) (saturated len) (seen_in heap.old) (seen_in heap.new) (stored_in heap.new) at)) }
+    ensures place { result ≡ 0 → (name : Name) × ((resized_or_moved_by_place (level_in heap.old) (heap_in heap.old) at (saturated len)).answer ≡ Ok name) × (name.at ≡ new_at.new) }
     ensures kept { ¬ (result ≡ 0) → new_at.new ≡ new_at.old }
-    ensures counts { serves heap.old ≡ true → counts_in heap.new ≡ counted_move (counts_in heap.old) at (resized_or_moved_by_place (level_in heap.old) (heap_in heap.old) at (saturated len)).answer (saturated len) (heap_in heap.new) }
-    ensures moves { serves heap.old ≡ true → MovesUnsetAt resize_unset_touches move_unset_touches (level_in heap.old) (saturated len) (seen_in heap.old) (seen_in heap.new) (stored_in heap.new) at (resized_or_moved_by_place (level_in heap.old) (heap_in heap.old) at (saturated len)).answer }
 {
     if !heap.serves() {
         return CallFault::Closed.refusal();
     }
     let len = saturated(len);
-    let held = heap.inner.lend();
-    held.is_in_use = true;
-    let owned = &mut held.heap;
-    let answer = owned.resize_or_move_unset_at(at, len);
-    held.is_in_use = false;
+    let answer = on_heap!(heap, owned => owned.resize_or_move_unset_at(at, len));
     match answer {
         Ok(name) => {
             *new_at = name.at;
@@ -181,24 +148,16 @@ pub extern "C" fn tlsf_place(
     name: &mut BlockName,
     len: &mut u32,
 ) -> u32
-    ensures closed { serves heap.old ≡ false → (result ≡ closed) × (heap.new ≡ heap.old) }
-    ensures open { serves heap.old ≡ true → StaysOpen heap.old heap.new }
-    ensures name { serves heap.old ≡ true → result ≡ 0 → name_at (heap_in heap.old) at ≡ Some (name_of name.new) }
-    ensures len { serves heap.old ≡ true → result ≡ 0 → length_at (heap_in heap.old).blocks at ≡ Some len.new }
+    ensures heap { OnHeap heap.old heap.new (result ≡ closed) (counts_in heap.old) (Looks (seen_in heap.old) (seen_in heap.new) at (placed_at (heap_in heap.old).blocks at)) }
+    ensures name { result ≡ 0 → name_at (heap_in heap.old) at ≡ Some (name_of name.new) }
+    ensures len { result ≡ 0 → length_at (heap_in heap.old).blocks at ≡ Some len.new }
     ensures stale { serves heap.old ≡ true → ¬ (result ≡ 0) → (result ≡ number_of Stale) × (name_at (heap_in heap.old) at ≡ None) }
     ensures kept { ¬ (result ≡ 0) → (name.new ≡ name.old) × (len.new ≡ len.old) }
-    ensures counts { serves heap.old ≡ true → counts_in heap.new ≡ counts_in heap.old }
-    ensures looks { serves heap.old ≡ true → Looks (seen_in heap.old) (seen_in heap.new) at (placed_at (heap_in heap.old).blocks at) }
 {
     if !heap.serves() {
         return CallFault::Closed.number();
     }
-    let held = heap.inner.lend();
-    held.is_in_use = true;
-    let owned = &mut held.heap;
-    let id = owned.id();
-    let found = owned.block_at(at);
-    held.is_in_use = false;
+    let (id, found) = on_heap!(heap, owned => (owned.id(), owned.block_at(at)));
     match found {
         Some(
             PlacedBlock {
@@ -228,22 +187,15 @@ pub extern "C" fn tlsf_place(
 /// ```
 #[unsafe(no_mangle)]
 pub extern "C" fn tlsf_block_at(heap: &mut HeapSlot, at: u32, block: &mut BlockInfo) -> u32
-    ensures closed { serves heap.old ≡ false → (result ≡ closed) × (heap.new ≡ heap.old) }
-    ensures open { serves heap.old ≡ true → StaysOpen heap.old heap.new }
-    ensures block { serves heap.old ≡ true → result ≡ 0 → (b : PlacedBlock) × (placed_at (heap_in heap.old).blocks at ≡ Some b) × (block.new ≡ info_of b) }
+    ensures heap { OnHeap heap.old heap.new (result ≡ closed) (counts_in heap.old) (Looks (seen_in heap.old) (seen_in heap.new) at (placed_at (heap_in heap.old).blocks at)) }
+    ensures block { result ≡ 0 → (b : PlacedBlock) × (placed_at (heap_in heap.old).blocks at ≡ Some b) × (block.new ≡ info_of b) }
     ensures stale { serves heap.old ≡ true → ¬ (result ≡ 0) → (result ≡ number_of Stale) × (placed_at (heap_in heap.old).blocks at ≡ None) }
     ensures kept { ¬ (result ≡ 0) → block.new ≡ block.old }
-    ensures counts { serves heap.old ≡ true → counts_in heap.new ≡ counts_in heap.old }
-    ensures looks { serves heap.old ≡ true → Looks (seen_in heap.old) (seen_in heap.new) at (placed_at (heap_in heap.old).blocks at) }
 {
     if !heap.serves() {
         return CallFault::Closed.number();
     }
-    let held = heap.inner.lend();
-    held.is_in_use = true;
-    let owned = &mut held.heap;
-    let found = owned.block_at(at);
-    held.is_in_use = false;
+    let found = on_heap!(heap, owned => owned.block_at(at));
     match found {
         Some(there) => {
             *block = BlockInfo::of(there);
@@ -272,23 +224,16 @@ pub extern "C" fn tlsf_check(
     next: &mut u32,
     damaged: &mut u32,
 ) -> u32
-    ensures closed { serves heap.old ≡ false → (result ≡ closed) × (heap.new ≡ heap.old) }
-    ensures open { serves heap.old ≡ true → StaysOpen heap.old heap.new }
+    ensures heap { OnHeap heap.old heap.new (result ≡ closed) (counts_in heap.old)
+        ((found : Option Checked) × ChecksBlocks (stored_in heap.old) from most (seen_in heap.old) (seen_in heap.new) found × (result ≡ check_number_of found) × (next.new ≡ next_told next.old found) × (damaged.new ≡ damaged_told damaged.old found)) }
     ensures sound { serves heap.old ≡ true → IsPlace (heap_in heap.old).blocks from → (result ≡ 0) × FindsSound (heap_in heap.old).blocks from most (Sound next.new) }
     ensures stale { serves heap.old ≡ true → ¬ (IsPlace (heap_in heap.old).blocks from) → result ≡ number_of Stale }
     ensures no_next { ¬ (result ≡ 0) → next.new ≡ next.old }
     ensures no_damage { ¬ (result ≡ damage) → damaged.new ≡ damaged.old }
-    ensures counts { serves heap.old ≡ true → counts_in heap.new ≡ counts_in heap.old }
-    ensures checks { serves heap.old ≡ true → (found : Option Checked) × ChecksBlocks (stored_in heap.old) from most (seen_in heap.old) (seen_in heap.new) found × (result ≡ check_number_of found)
-        × (next.new ≡ next_told next.old found) × (damaged.new ≡ damaged_told damaged.old found) }
 {
     if !heap.serves() {
         return CallFault::Closed.number();
     }
-    let held = heap.inner.lend();
-    held.is_in_use = true;
-    let owned = &mut held.heap;
-    let found = owned.check_blocks(from, most);
-    held.is_in_use = false;
+    let found = on_heap!(heap, owned => owned.check_blocks(from, most));
     check_status(found, next, damaged)
 }

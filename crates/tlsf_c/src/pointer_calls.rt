@@ -1,14 +1,13 @@
 //! C's call of a heap by pointer.
-ghost use Rattle.std.specs.Prelude.{◌≡◌, ◌≤◌, ◌<◌, true, false};
-ghost use Rattle.tlsf_heap.specs.Calls.{allocated};
+ghost use Rattle.std.specs.Prelude.{◌≡◌, ◌≤◌, ◌<◌};
 ghost use Rattle.tlsf_heap.specs.Effects.{AllocatesUnset};
 ghost use Rattle.tlsf_heap.specs.Touched.{allocate_unset_touches};
 ghost use Rattle.tlsf_c.specs.Counting.{counted_request};
-ghost use Rattle.tlsf_c.specs.Handles.{counts_in, heap_in, level_in, seen_in, stored_in, StaysOpen, serves};
+ghost use Rattle.tlsf_c.specs.Handles.{counts_in, heap_in, level_in, seen_in, stored_in, OnHeap, Tells, allocated_in};
 ghost use Rattle.tlsf_c.specs.Pointers;
 ghost use Rattle.tlsf_c.specs.Pointers.{first_byte, longest};
 
-use crate::heap_slot::HeapSlot;
+use crate::heap_slot::{HeapSlot, on_heap};
 
 /// Gives a block that holds `len` bytes of payload, and fills nothing: its bytes are those that lie there. Answers at which byte of the
 /// region the payload begins, or 0 where there is none. With its header the block has an even number of words. It takes no longer for
@@ -21,22 +20,15 @@ use crate::heap_slot::HeapSlot;
 /// ```
 #[unsafe(no_mangle)]
 pub extern "C" fn tlsf_allocate_payload(heap: &mut HeapSlot, len: usize) -> usize
-    ensures closed { serves heap.old ≡ false → (result ≡ 0) × (heap.new ≡ heap.old) }
     ensures long { longest < len → (result ≡ 0) × (heap.new ≡ heap.old) }
-    ensures open { serves heap.old ≡ true → StaysOpen heap.old heap.new }
-    ensures byte { serves heap.old ≡ true → len ≤ longest → result ≡ first_byte (allocated (level_in heap.old) (heap_in heap.old) (Pointers.rounded len)).answer }
-    ensures allocates { serves heap.old ≡ true → len ≤ longest → AllocatesUnset allocate_unset_touches (level_in heap.old) (Pointers.rounded len) (seen_in heap.old) (seen_in heap.new) (stored_in heap.new) (allocated (level_in heap.old) (heap_in heap.old) (Pointers.rounded len)).answer }
-    ensures counts { serves heap.old ≡ true → len ≤ longest → counts_in heap.new ≡ counted_request (counts_in heap.old) (allocated (level_in heap.old) (heap_in heap.old) (Pointers.rounded len)).answer (Pointers.rounded len) (heap_in heap.new) }
+    ensures heap { len ≤ longest → OnHeap heap.old heap.new (result ≡ 0) (counted_request (counts_in heap.old) (allocated_in heap.old (Pointers.rounded len)) (Pointers.rounded len) (heap_in heap.new))
+        (Tells first_byte result (allocated_in heap.old (Pointers.rounded len)) (AllocatesUnset allocate_unset_touches (level_in heap.old) (Pointers.rounded len) (seen_in heap.old) (seen_in heap.new) (stored_in heap.new))) }
 {
     if !heap.serves() || len > LONGEST {
         return 0;
     }
     let len = rounded(len as u32);
-    let held = heap.inner.lend();
-    held.is_in_use = true;
-    let owned = &mut held.heap;
-    let answer = owned.allocate_unset(len);
-    held.is_in_use = false;
+    let answer = on_heap!(heap, owned => owned.allocate_unset(len));
     match answer {
         Ok(name) => 8 * (name.at as usize + 3),
         Err(_) => 0,

@@ -1,20 +1,19 @@
 //! C's calls of several heaps for one table of kinds, which never refuse for want of room.
-ghost use Rattle.std.specs.Prelude.{◌≡◌, ◌+◌, ◌<◌, ◌≤◌, ◌^◌, true, false, ◌↔◌, Result, IfOk, IsErrOf, Option, IfSome, length};
+ghost use Rattle.std.specs.Prelude.{◌≡◌, ◌+◌, ◌≤◌, ◌^◌, true, false, ◌↔◌, Result, IfOk, IsErrOf, Option, IfSome, length};
 ghost use Rattle.tlsf_heap.specs.declared.name.Name.{Name};
-ghost use Rattle.tlsf_heap.specs.declared.refusal.Refusal.{Refusal};
 ghost use Rattle.tlsf_heap.specs.declared.report.Report.{Report};
 ghost use Rattle.tlsf_pool.specs.declared.pools.pool_refusal.PoolRefusal.{PoolRefusal};
-ghost use Rattle.tlsf_pool.specs.sizes.Rising.{HasNoHeaps, Rises};
+ghost use Rattle.tlsf_pool.specs.sizes.Rising.{HasNoHeaps};
 ghost use Rattle.tlsf_c.specs.Lengths.{saturated};
 ghost use Rattle.tlsf_c.specs.Names.{name_of, report_in};
-ghost use Rattle.tlsf_c.specs.PoolCalls.{AreNewPools, AllocatesInPools, ReleasesInPools, WritesInPools, ReadsInPools, ReportsInPools, PartsLeaveLive, PartsLeavePayloads};
-ghost use Rattle.tlsf_c.specs.PoolHandles.{pools_in, pools_level, holds_pools, PoolsStayOpen, kinds_of, pool_status_of, part_status_of};
-ghost use Rattle.tlsf_c.specs.Refusals.{status_of, bad_size, no_memory, closed, other_kind, in_use, bad_level};
-ghost use Rattle.tlsf_c.specs.Serving.{arena_serves};
+ghost use Rattle.tlsf_c.specs.PoolCalls.{AreNewPools, AllocatesInPools, ReleasesInPools, WritesInPools, ReadsInPools, ReportsInPools, PartsLeaveLive};
+ghost use Rattle.tlsf_c.specs.PoolHandles.{pools_in, pools_level, holds_pools, kinds_of, pool_status_of, part_status_of, ByName, OnPools};
+ghost use Rattle.tlsf_c.specs.Serving.{arena_serves, ClosesArena, OpensAtLevel};
+ghost use Rattle.tlsf_c.specs.Levels.{IsLevel};
 
 use crate::any_arena::AnyArena;
 use crate::any_pools::AnyPools;
-use crate::arena_slot::ArenaSlot;
+use crate::arena_slot::{ArenaSlot, on_arena};
 use crate::call_fault::{CallFault, status};
 use crate::kind_row::{KindRow, kinds_in};
 use crate::lengths::saturated;
@@ -25,8 +24,7 @@ use tlsf_pool::PoolRefusal;
 
 /// Opens pools of a level, 4 or 5, for a table of at most 64 rows.
 fn open_for(alloc: Global, level: u32, id: u32, rows: &[KindRow]) -> Result<AnyPools, OpenFault>
-    requires least { 4 ≤ level }
-    requires most { level ≤ 5 }
+    requires level { IsLevel level }
     requires few { length rows.now ≤ 64 }
     requires numbers { id + 8 ≤ 2 ^ 32 }
     ensures level { IfOk result (λ a. a.level ≡ level) }
@@ -58,17 +56,8 @@ pub extern "C" fn tlsf_pools_open(
     id: u32,
     rows: &[KindRow],
 ) -> u32
-    ensures in_use { pools.old.is_open ≡ true → result ≡ in_use }
-    ensures bad_level { pools.old.is_open ≡ false → ¬ (level ≡ 4) → ¬ (level ≡ 5) → result ≡ bad_level }
-    ensures too_many { pools.old.is_open ≡ false → 4 ≤ level → level ≤ 5 → 64 < length rows.now → result ≡ bad_size }
-    ensures no_number { pools.old.is_open ≡ false → 4 ≤ level → level ≤ 5 → 2 ^ 32 < id + 8 → result ≡ bad_size }
-    ensures falls { pools.old.is_open ≡ false → 4 ≤ level → level ≤ 5 → ¬ (Rises (kinds_of rows.now)) → result ≡ bad_size }
-    ensures no_heaps { pools.old.is_open ≡ false → 4 ≤ level → level ≤ 5 → HasNoHeaps level 8 (kinds_of rows.now) → result ≡ bad_size }
-    ensures no_memory { pools.old.is_open ≡ false → 4 ≤ level → level ≤ 5 → length rows.now ≤ 64 → id + 8 ≤ 2 ^ 32 → ¬ (HasNoHeaps level 8 (kinds_of rows.now)) → ¬ (result ≡ 0) → result ≡ no_memory }
-    ensures refused { ¬ (result ≡ 0) → pools.new ≡ pools.old }
-    ensures open { result ≡ 0 → (arena_serves pools.new ≡ true) × (holds_pools pools.new ≡ true) }
-    ensures level { result ≡ 0 → pools_level pools.new ≡ level }
-    ensures new { result ≡ 0 → AreNewPools level id (kinds_of rows.now) (pools_in pools.new) }
+    ensures refusals { OpensAtLevel pools.old.is_open level ((length rows.now ≤ 64) × (id + 8 ≤ 2 ^ 32) × ¬ (HasNoHeaps level 8 (kinds_of rows.now))) pools.old pools.new result }
+    ensures opens { result ≡ 0 → (arena_serves pools.new ≡ true) × (holds_pools pools.new ≡ true) × (pools_level pools.new ≡ level) × AreNewPools level id (kinds_of rows.now) (pools_in pools.new) }
 {
     if pools.is_open {
         return CallFault::InUse.number();
@@ -106,10 +95,7 @@ pub extern "C" fn tlsf_pools_open(
 /// ```
 #[unsafe(no_mangle)]
 pub extern "C" fn tlsf_pools_close(alloc: Global, pools: &mut ArenaSlot) -> u32
-    ensures after { result ≡ 0 → pools.new.is_open ≡ false }
-    ensures closed { arena_serves pools.old ≡ false → (result ≡ closed) × (pools.new ≡ pools.old) }
-    ensures other { arena_serves pools.old ≡ true → holds_pools pools.old ≡ false → (result ≡ other_kind) × (pools.new ≡ pools.old) }
-    ensures open { arena_serves pools.old ≡ true → holds_pools pools.old ≡ true → result ≡ 0 }
+    ensures { ClosesArena (holds_pools pools.old) pools.old pools.new result }
 {
     if !pools.serves() {
         return CallFault::Closed.number();
@@ -137,23 +123,14 @@ pub extern "C" fn tlsf_pools_allocate(
     len: usize,
     name: &mut BlockName,
 ) -> u32
-    ensures closed { arena_serves pools.old ≡ false → (result ≡ closed) × (pools.new ≡ pools.old) }
-    ensures other { arena_serves pools.old ≡ true → holds_pools pools.old ≡ false → (result ≡ other_kind) × (pools.new ≡ pools.old) }
-    ensures open { arena_serves pools.old ≡ true → PoolsStayOpen pools.old pools.new }
-    ensures allocates { arena_serves pools.old ≡ true → holds_pools pools.old ≡ true → (answer : Result Name PoolRefusal) × AllocatesInPools (pools_level pools.old) (pools_in pools.old) (pools_in pools.new) (saturated len) answer
-        × (result ≡ pool_status_of answer) × IfOk answer (λ given. name_of name.new ≡ given) }
-    ensures leaves { arena_serves pools.old ≡ true → PartsLeaveLive (pools_in pools.old) (pools_in pools.new) }
+    ensures pools { OnPools pools.old pools.new result (((answer : Result Name PoolRefusal) × AllocatesInPools (pools_level pools.old) (pools_in pools.old) (pools_in pools.new) (saturated len) answer
+        × (result ≡ pool_status_of answer) × IfOk answer (λ given. name_of name.new ≡ given)) × PartsLeaveLive (pools_in pools.old) (pools_in pools.new)) }
     ensures no_name { ¬ (result ≡ 0) → name.new ≡ name.old }
 {
     if !pools.serves() {
         return CallFault::Closed.refusal();
     }
-    let AnyArena::Pools { is_in_use, owned } = pools.inner.lend() else {
-        return CallFault::OtherKind.refusal();
-    };
-    *is_in_use = true;
-    let answer = owned.allocate(saturated(len));
-    *is_in_use = false;
+    let answer = on_arena!(pools, Pools, owned => owned.allocate(saturated(len)));
     match answer {
         Ok(new) => {
             *name = BlockName::of(new);
@@ -176,23 +153,12 @@ pub extern "C" fn tlsf_pools_allocate(
 #[tactic(auto, using(crate::proofs::LeftParts::release_left))]
 #[unsafe(no_mangle)]
 pub extern "C" fn tlsf_pools_release(pools: &mut ArenaSlot, name: BlockName) -> u32
-    ensures closed { arena_serves pools.old ≡ false → (result ≡ closed) × (pools.new ≡ pools.old) }
-    ensures other { arena_serves pools.old ≡ true → holds_pools pools.old ≡ false → (result ≡ other_kind) × (pools.new ≡ pools.old) }
-    ensures open { arena_serves pools.old ≡ true → PoolsStayOpen pools.old pools.new }
-    ensures releases { arena_serves pools.old ≡ true → holds_pools pools.old ≡ true → (answer : Result (Unit {0}) Refusal) × ReleasesInPools (pools_in pools.old) (pools_in pools.new) (name_of name) answer × (result ≡ status_of answer) }
-    ensures leaves { arena_serves pools.old ≡ true → PartsLeavePayloads (pools_in pools.old) (pools_in pools.new) (name_of name) }
-    ensures leaves_all { arena_serves pools.old ≡ true → ¬ (result ≡ 0) → PartsLeaveLive (pools_in pools.old) (pools_in pools.new) }
+    ensures { OnPools pools.old pools.new result (ByName (pools_in pools.old) (pools_in pools.new) (name_of name) result (ReleasesInPools (pools_in pools.old) (pools_in pools.new) (name_of name))) }
 {
     if !pools.serves() {
         return CallFault::Closed.refusal();
     }
-    let AnyArena::Pools { is_in_use, owned } = pools.inner.lend() else {
-        return CallFault::OtherKind.refusal();
-    };
-    *is_in_use = true;
-    let answer = owned.release(name.name());
-    *is_in_use = false;
-    status(answer)
+    status(on_arena!(pools, Pools, owned => owned.release(name.name())))
 }
 
 /// Writes bytes into the payload of the block of that name, from byte `at` of it on.
@@ -211,23 +177,12 @@ pub extern "C" fn tlsf_pools_write(
     at: u32,
     bytes: &[u8],
 ) -> u32
-    ensures closed { arena_serves pools.old ≡ false → (result ≡ closed) × (pools.new ≡ pools.old) }
-    ensures other { arena_serves pools.old ≡ true → holds_pools pools.old ≡ false → (result ≡ other_kind) × (pools.new ≡ pools.old) }
-    ensures open { arena_serves pools.old ≡ true → PoolsStayOpen pools.old pools.new }
-    ensures writes { arena_serves pools.old ≡ true → holds_pools pools.old ≡ true → (answer : Result (Unit {0}) Refusal) × WritesInPools (pools_in pools.old) (pools_in pools.new) (name_of name) at bytes.now answer × (result ≡ status_of answer) }
-    ensures leaves { arena_serves pools.old ≡ true → PartsLeavePayloads (pools_in pools.old) (pools_in pools.new) (name_of name) }
-    ensures leaves_all { arena_serves pools.old ≡ true → ¬ (result ≡ 0) → PartsLeaveLive (pools_in pools.old) (pools_in pools.new) }
+    ensures { OnPools pools.old pools.new result (ByName (pools_in pools.old) (pools_in pools.new) (name_of name) result (WritesInPools (pools_in pools.old) (pools_in pools.new) (name_of name) at bytes.now)) }
 {
     if !pools.serves() {
         return CallFault::Closed.refusal();
     }
-    let AnyArena::Pools { is_in_use, owned } = pools.inner.lend() else {
-        return CallFault::OtherKind.refusal();
-    };
-    *is_in_use = true;
-    let answer = owned.write(name.name(), at, bytes);
-    *is_in_use = false;
-    status(answer)
+    status(on_arena!(pools, Pools, owned => owned.write(name.name(), at, bytes)))
 }
 
 /// Reads bytes of the payload of the block of that name, from byte `at` of it on, and fills `out` with them.
@@ -246,23 +201,13 @@ pub extern "C" fn tlsf_pools_read(
     at: u32,
     out: &mut [u8],
 ) -> u32
-    ensures closed { arena_serves pools.old ≡ false → (result ≡ closed) × (pools.new ≡ pools.old) × (out.new ≡ out.old) }
-    ensures other { arena_serves pools.old ≡ true → holds_pools pools.old ≡ false → (result ≡ other_kind) × (pools.new ≡ pools.old) × (out.new ≡ out.old) }
-    ensures open { arena_serves pools.old ≡ true → PoolsStayOpen pools.old pools.new }
-    ensures reads { arena_serves pools.old ≡ true → holds_pools pools.old ≡ true → (answer : Result (Unit {0}) Refusal) × ReadsInPools (pools_in pools.old) (pools_in pools.new) (name_of name) at out.old out.new answer × (result ≡ status_of answer) }
-    ensures leaves { arena_serves pools.old ≡ true → PartsLeavePayloads (pools_in pools.old) (pools_in pools.new) (name_of name) }
-    ensures leaves_all { arena_serves pools.old ≡ true → ¬ (result ≡ 0) → PartsLeaveLive (pools_in pools.old) (pools_in pools.new) }
+    ensures pools { OnPools pools.old pools.new result (ByName (pools_in pools.old) (pools_in pools.new) (name_of name) result (ReadsInPools (pools_in pools.old) (pools_in pools.new) (name_of name) at out.old out.new)) }
+    ensures kept { (arena_serves pools.old ≡ true → holds_pools pools.old ≡ false) → out.new ≡ out.old }
 {
     if !pools.serves() {
         return CallFault::Closed.refusal();
     }
-    let AnyArena::Pools { is_in_use, owned } = pools.inner.lend() else {
-        return CallFault::OtherKind.refusal();
-    };
-    *is_in_use = true;
-    let answer = owned.read(name.name(), at, out);
-    *is_in_use = false;
-    status(answer)
+    status(on_arena!(pools, Pools, owned => owned.read(name.name(), at, out)))
 }
 
 /// The report on the heap of a part of the table goes to `report`. The parts have numbers from 0 on, in the order of the table. It
@@ -280,23 +225,14 @@ pub extern "C" fn tlsf_pools_report(
     part: u32,
     report: &mut HeapReport,
 ) -> u32
-    ensures closed { arena_serves pools.old ≡ false → (result ≡ closed) × (pools.new ≡ pools.old) }
-    ensures other { arena_serves pools.old ≡ true → holds_pools pools.old ≡ false → (result ≡ other_kind) × (pools.new ≡ pools.old) }
-    ensures open { arena_serves pools.old ≡ true → PoolsStayOpen pools.old pools.new }
-    ensures reports { arena_serves pools.old ≡ true → holds_pools pools.old ≡ true → (answer : Option Report) × ReportsInPools (pools_level pools.old) (pools_in pools.old) (pools_in pools.new) part answer
-        × (result ≡ part_status_of answer) × IfSome answer (λ found. report_in report.new ≡ found) }
-    ensures leaves { arena_serves pools.old ≡ true → PartsLeaveLive (pools_in pools.old) (pools_in pools.new) }
+    ensures pools { OnPools pools.old pools.new result (((answer : Option Report) × ReportsInPools (pools_level pools.old) (pools_in pools.old) (pools_in pools.new) part answer
+        × (result ≡ part_status_of answer) × IfSome answer (λ found. report_in report.new ≡ found)) × PartsLeaveLive (pools_in pools.old) (pools_in pools.new)) }
     ensures no_report { ¬ (result ≡ 0) → report.new ≡ report.old }
 {
     if !pools.serves() {
         return CallFault::Closed.refusal();
     }
-    let AnyArena::Pools { is_in_use, owned } = pools.inner.lend() else {
-        return CallFault::OtherKind.refusal();
-    };
-    *is_in_use = true;
-    let answer = owned.report(part as usize);
-    *is_in_use = false;
+    let answer = on_arena!(pools, Pools, owned => owned.report(part as usize));
     match answer {
         Some(found) => {
             *report = HeapReport::of(found);

@@ -1,5 +1,5 @@
 //! C's calls of pools by part, place and row, and the words that pools need. Its calls by pointer are made of the first.
-ghost use Rattle.std.specs.Prelude.{◌≡◌, ◌<◌, ◌≤◌, ◌↔◌, true, false, Option, Some, None, IfSome, length};
+ghost use Rattle.std.specs.Prelude.{◌≡◌, ◌<◌, ◌≤◌, ◌↔◌, Option, Some, None, IfSome, length};
 ghost use Rattle.tlsf_heap.specs.ByPlace.{name_at};
 ghost use Rattle.tlsf_heap.specs.Numbers.{number_of};
 ghost use Rattle.tlsf_heap.specs.declared.checked.Checked.{Checked};
@@ -15,13 +15,12 @@ ghost use Rattle.tlsf_c.specs.Lengths.{saturated};
 ghost use Rattle.tlsf_c.specs.Names.{name_of};
 ghost use Rattle.tlsf_c.specs.PlaceCalls.{length_at};
 ghost use Rattle.tlsf_c.specs.PoolCalls.{ChecksInPools, LooksInPools, PartsLeaveLive};
-ghost use Rattle.tlsf_c.specs.PoolHandles.{pools_in, holds_pools, PoolsStayOpen, kinds_of};
-ghost use Rattle.tlsf_c.specs.Refusals.{bad_size, closed, damage, other_kind, bad_level};
-ghost use Rattle.tlsf_c.specs.Serving.{arena_serves};
+ghost use Rattle.tlsf_c.specs.PoolHandles.{pools_in, kinds_of, OnPools};
+ghost use Rattle.tlsf_c.specs.Refusals.{bad_size, damage, bad_level};
+ghost use Rattle.tlsf_c.specs.Levels.{IsLevel};
 
-use crate::any_arena::AnyArena;
 use crate::any_pools::AnyPools;
-use crate::arena_slot::ArenaSlot;
+use crate::arena_slot::{ArenaSlot, on_arena};
 use crate::call_fault::{CallFault, check_status};
 use crate::kind_row::{KindRow, kinds_in};
 use crate::lengths::saturated;
@@ -31,8 +30,7 @@ use tlsf_pool::{MOST_HEAPS, Split, rising_split};
 
 /// The cheapest way to give a table of at most 64 rows to at most eight heaps of a level, 4 or 5.
 fn split_for(level: u32, rows: &[KindRow]) -> Option<Split>
-    requires least { 4 ≤ level }
-    requires most { level ≤ 5 }
+    requires level { IsLevel level }
     requires few { length rows.now ≤ 64 }
     ensures least { IfSome result (IsLeast level 8 (kinds_of rows.now)) }
     ensures none { result ≡ None → HasNoHeaps level 8 (kinds_of rows.now) }
@@ -110,25 +108,15 @@ pub extern "C" fn tlsf_pools_part(
     base: &mut *mut u64,
     number: &mut u32,
 ) -> u32
-    ensures closed { arena_serves pools.old ≡ false → (result ≡ closed) × (pools.new ≡ pools.old) }
-    ensures other { arena_serves pools.old ≡ true → holds_pools pools.old ≡ false → (result ≡ other_kind) × (pools.new ≡ pools.old) }
-    ensures open { arena_serves pools.old ≡ true → PoolsStayOpen pools.old pools.new }
-    ensures there { arena_serves pools.old ≡ true → holds_pools pools.old ≡ true → part < length (pools_in pools.old).parts → result ≡ 0 }
-    ensures stale { arena_serves pools.old ≡ true → holds_pools pools.old ≡ true → length (pools_in pools.old).parts ≤ part → result ≡ number_of Stale }
+    ensures pools { OnPools pools.old pools.new result ((part < length (pools_in pools.old).parts → result ≡ 0) × (length (pools_in pools.old).parts ≤ part → result ≡ number_of Stale) × (pools_in pools.new ≡ pools_in pools.old)) }
     ensures base { result ≡ 0 → base.new ≡ (part_at (pools_in pools.old) part).extents.words.address }
     ensures number { result ≡ 0 → number.new ≡ (part_at (pools_in pools.old) part).heap.id }
-    ensures same { arena_serves pools.old ≡ true → pools_in pools.new ≡ pools_in pools.old }
     ensures kept { ¬ (result ≡ 0) → (base.new ≡ base.old) × (number.new ≡ number.old) }
 {
     if !pools.serves() {
         return CallFault::Closed.refusal();
     }
-    let AnyArena::Pools { is_in_use, owned } = pools.inner.lend() else {
-        return CallFault::OtherKind.refusal();
-    };
-    *is_in_use = true;
-    let answer = part_of(owned, part as usize);
-    *is_in_use = false;
+    let answer = on_arena!(pools, Pools, owned => part_of(owned, part as usize));
     match answer {
         Some((at, id)) => {
             *base = at;
@@ -150,23 +138,14 @@ pub extern "C" fn tlsf_pools_part(
 /// ```
 #[unsafe(no_mangle)]
 pub extern "C" fn tlsf_pools_row(pools: &mut ArenaSlot, len: usize, row_len: &mut u32) -> u32
-    ensures closed { arena_serves pools.old ≡ false → (result ≡ closed) × (pools.new ≡ pools.old) }
-    ensures other { arena_serves pools.old ≡ true → holds_pools pools.old ≡ false → (result ≡ other_kind) × (pools.new ≡ pools.old) }
-    ensures open { arena_serves pools.old ≡ true → PoolsStayOpen pools.old pools.new }
+    ensures pools { OnPools pools.old pools.new result ((¬ (result ≡ 0) → (result ≡ bad_size) × (tables.row_len (table_of (pools_in pools.old)) (saturated len) ≡ None)) × (pools_in pools.new ≡ pools_in pools.old)) }
     ensures row { result ≡ 0 → tables.row_len (table_of (pools_in pools.old)) (saturated len) ≡ Some row_len.new }
-    ensures too_long { arena_serves pools.old ≡ true → holds_pools pools.old ≡ true → ¬ (result ≡ 0) → (result ≡ bad_size) × (tables.row_len (table_of (pools_in pools.old)) (saturated len) ≡ None) }
-    ensures same { arena_serves pools.old ≡ true → pools_in pools.new ≡ pools_in pools.old }
     ensures kept { ¬ (result ≡ 0) → row_len.new ≡ row_len.old }
 {
     if !pools.serves() {
         return CallFault::Closed.refusal();
     }
-    let AnyArena::Pools { is_in_use, owned } = pools.inner.lend() else {
-        return CallFault::OtherKind.refusal();
-    };
-    *is_in_use = true;
-    let answer = owned.row_len(saturated(len));
-    *is_in_use = false;
+    let answer = on_arena!(pools, Pools, owned => owned.row_len(saturated(len)));
     match answer {
         Some(bytes) => {
             *row_len = bytes;
@@ -192,23 +171,14 @@ pub extern "C" fn tlsf_pools_counts(
     held: &mut u32,
     most: &mut u32,
 ) -> u32
-    ensures closed { arena_serves pools.old ≡ false → (result ≡ closed) × (pools.new ≡ pools.old) }
-    ensures other { arena_serves pools.old ≡ true → holds_pools pools.old ≡ false → (result ≡ other_kind) × (pools.new ≡ pools.old) }
-    ensures open { arena_serves pools.old ≡ true → PoolsStayOpen pools.old pools.new }
+    ensures pools { OnPools pools.old pools.new result ((¬ (result ≡ 0) → (result ≡ number_of Stale) × (counts_at (pools_in pools.old) row ≡ None)) × (pools_in pools.new ≡ pools_in pools.old)) }
     ensures counts { result ≡ 0 → counts_at (pools_in pools.old) row ≡ Some (record { held = held.new; most = most.new }) }
-    ensures stale { arena_serves pools.old ≡ true → holds_pools pools.old ≡ true → ¬ (result ≡ 0) → (result ≡ number_of Stale) × (counts_at (pools_in pools.old) row ≡ None) }
-    ensures same { arena_serves pools.old ≡ true → pools_in pools.new ≡ pools_in pools.old }
     ensures kept { ¬ (result ≡ 0) → (held.new ≡ held.old) × (most.new ≡ most.old) }
 {
     if !pools.serves() {
         return CallFault::Closed.refusal();
     }
-    let AnyArena::Pools { is_in_use, owned } = pools.inner.lend() else {
-        return CallFault::OtherKind.refusal();
-    };
-    *is_in_use = true;
-    let answer = owned.counts(row as usize);
-    *is_in_use = false;
+    let answer = on_arena!(pools, Pools, owned => owned.counts(row as usize));
     match answer {
         Some(counts) => {
             *held = counts.held;
@@ -239,24 +209,15 @@ pub extern "C" fn tlsf_pools_check(
     next: &mut u32,
     damaged: &mut u32,
 ) -> u32
-    ensures closed { arena_serves pools.old ≡ false → (result ≡ closed) × (pools.new ≡ pools.old) }
-    ensures other { arena_serves pools.old ≡ true → holds_pools pools.old ≡ false → (result ≡ other_kind) × (pools.new ≡ pools.old) }
-    ensures open { arena_serves pools.old ≡ true → PoolsStayOpen pools.old pools.new }
-    ensures checks { arena_serves pools.old ≡ true → holds_pools pools.old ≡ true → (found : Option Checked) × ChecksInPools (pools_in pools.old) (pools_in pools.new) part from most found
-        × (result ≡ check_number_of found) × (next.new ≡ next_told next.old found) × (damaged.new ≡ damaged_told damaged.old found) }
-    ensures leaves { arena_serves pools.old ≡ true → PartsLeaveLive (pools_in pools.old) (pools_in pools.new) }
+    ensures pools { OnPools pools.old pools.new result (((found : Option Checked) × ChecksInPools (pools_in pools.old) (pools_in pools.new) part from most found
+        × (result ≡ check_number_of found) × (next.new ≡ next_told next.old found) × (damaged.new ≡ damaged_told damaged.old found)) × PartsLeaveLive (pools_in pools.old) (pools_in pools.new)) }
     ensures no_next { ¬ (result ≡ 0) → next.new ≡ next.old }
     ensures no_damage { ¬ (result ≡ damage) → damaged.new ≡ damaged.old }
 {
     if !pools.serves() {
         return CallFault::Closed.refusal();
     }
-    let AnyArena::Pools { is_in_use, owned } = pools.inner.lend() else {
-        return CallFault::OtherKind.refusal();
-    };
-    *is_in_use = true;
-    let found = owned.check_blocks(part as usize, from, most);
-    *is_in_use = false;
+    let found = on_arena!(pools, Pools, owned => owned.check_blocks(part as usize, from, most));
     check_status(found, next, damaged)
 }
 
@@ -276,27 +237,18 @@ pub extern "C" fn tlsf_pools_place(
     name: &mut BlockName,
     len: &mut u32,
 ) -> u32
-    ensures closed { arena_serves pools.old ≡ false → (result ≡ closed) × (pools.new ≡ pools.old) }
-    ensures other { arena_serves pools.old ≡ true → holds_pools pools.old ≡ false → (result ≡ other_kind) × (pools.new ≡ pools.old) }
-    ensures open { arena_serves pools.old ≡ true → PoolsStayOpen pools.old pools.new }
+    ensures pools { OnPools pools.old pools.new result (((found : Option PlacedBlock) × LooksInPools (pools_in pools.old) (pools_in pools.new) part at found) × PartsLeaveLive (pools_in pools.old) (pools_in pools.new)
+        × (length (pools_in pools.old).parts ≤ part → result ≡ number_of Stale)
+        × (part < length (pools_in pools.old).parts → ¬ (result ≡ 0) → (result ≡ number_of Stale) × (name_at (part_at (pools_in pools.old) part).heap at ≡ None))) }
     ensures name { result ≡ 0 → name_at (part_at (pools_in pools.old) part).heap at ≡ Some (name_of name.new) }
     ensures len { result ≡ 0 → length_at (part_at (pools_in pools.old) part).heap.blocks at ≡ Some len.new }
-    ensures no_part { arena_serves pools.old ≡ true → holds_pools pools.old ≡ true → length (pools_in pools.old).parts ≤ part → result ≡ number_of Stale }
-    ensures stale { arena_serves pools.old ≡ true → holds_pools pools.old ≡ true → part < length (pools_in pools.old).parts → ¬ (result ≡ 0) → (result ≡ number_of Stale) × (name_at (part_at (pools_in pools.old) part).heap at ≡ None) }
-    ensures looks { arena_serves pools.old ≡ true → holds_pools pools.old ≡ true → (found : Option PlacedBlock) × LooksInPools (pools_in pools.old) (pools_in pools.new) part at found }
-    ensures leaves { arena_serves pools.old ≡ true → PartsLeaveLive (pools_in pools.old) (pools_in pools.new) }
     ensures kept { ¬ (result ≡ 0) → (name.new ≡ name.old) × (len.new ≡ len.old) }
 {
     if !pools.serves() {
         return CallFault::Closed.refusal();
     }
-    let AnyArena::Pools { is_in_use, owned } = pools.inner.lend() else {
-        return CallFault::OtherKind.refusal();
-    };
-    *is_in_use = true;
-    let number = owned.number(part as usize);
-    let found = owned.block_at(part as usize, at);
-    *is_in_use = false;
+    let (number, found) =
+        on_arena!(pools, Pools, owned => (owned.number(part as usize), owned.block_at(part as usize, at)));
     let Some(heap) = number else {
         return Refusal::Stale.number();
     };

@@ -1,19 +1,18 @@
 //! C's calls of a queue: several threads put names in, and the owner of their heap takes them out.
-ghost use Rattle.std.specs.Prelude.{◌≡◌, ◌⊎◌, true, false, ◌+◌, ◌*◌, ◌<◌, ◌≤◌, [], ◌∷◌, ◌++◌, List, length};
-ghost use Rattle.tlsf_post.specs.Mailboxes.{got_by, IsAllTaken, KeepsOwner};
+ghost use Rattle.std.specs.Prelude.{◌≡◌, ◌⊎◌, true, false, ◌<◌, ◌≤◌, [], ◌∷◌, ◌++◌, List, length};
+ghost use Rattle.tlsf_post.specs.Mailboxes.{got_by, IsAllTaken};
 ghost use Rattle.tlsf_post.specs.declared.post.Post.{Post};
-ghost use Rattle.tlsf_heap.specs.Touched.{release_touches};
-ghost use Rattle.tlsf_heap.specs.WordsInUse.{words_in_use};
-ghost use Rattle.tlsf_c.specs.Handles.{counts_in, heap_in, touches_in, touched_in, StaysOpen, end_serves, serves};
-ghost use Rattle.tlsf_c.specs.Ends.{left_in_end};
-ghost use Rattle.tlsf_c.specs.Drains.{drained, LeavesUnnamed};
+ghost use Rattle.tlsf_c.specs.Handles.{end_serves, serves, ClosesEnd};
+ghost use Rattle.tlsf_c.specs.Drains.{Drains, DrainsEnd};
 ghost use Rattle.tlsf_c.specs.Names.{name_of};
-ghost use Rattle.tlsf_c.specs.Queues.{queue_in, owner_in, left_in, got_in, end_in, put_in, holds_queue, holds_poster, AllTaken, KeepsQueue, KeepsEnd, IsNew, Puts, SawFull, Gives, HasGot, Gets};
-ghost use Rattle.tlsf_c.specs.Refusals.{bad_size, no_memory, closed, other_kind, in_use, full, empty, busy};
+ghost use Rattle.tlsf_c.specs.Queues.{queue_in, owner_in, left_in, got_in, end_in, put_in, holds_queue, holds_poster, AllTaken, KeepsQueue, KeepsEnd, IsNew, Puts, SawFull, Gives, HasGot, Gets, OnPoster, OnQueue};
+ghost use Rattle.tlsf_c.specs.Refusals.{in_use, full, empty, busy};
+ghost use Rattle.tlsf_c.specs.Serving.{Opens};
+ghost use Rattle.tlsf_c.specs.Ends.{StaysOwner};
 
 use crate::any_end::AnyEnd;
 use crate::call_fault::CallFault;
-use crate::end_slot::EndSlot;
+use crate::end_slot::{EndSlot, on_end};
 use crate::heap_slot::HeapSlot;
 use crate::lane_calls::release_posts;
 use crate::names::BlockName;
@@ -35,10 +34,7 @@ pub extern "C" fn tlsf_queue_open(
     posters: u32,
     capacity: u32,
 ) -> u32
-    ensures in_use { queue.old.is_open ≡ true → result ≡ in_use }
-    ensures bad_size { queue.old.is_open ≡ false → ¬ ((0 < posters) × (posters ≤ 1024) × (0 < capacity) × (capacity ≤ 1024)) → result ≡ bad_size }
-    ensures no_memory { queue.old.is_open ≡ false → 0 < posters → posters ≤ 1024 → 0 < capacity → capacity ≤ 1024 → ¬ (result ≡ 0) → result ≡ no_memory }
-    ensures refused { ¬ (result ≡ 0) → queue.new ≡ queue.old }
+    ensures refusals { Opens queue.old.is_open ((0 < posters) × (posters ≤ 1024) × (0 < capacity) × (capacity ≤ 1024)) queue.old queue.new result }
     ensures opens { result ≡ 0 → (end_serves queue.new ≡ true) × (holds_queue queue.new ≡ true) }
     ensures queue { result ≡ 0 → IsNew (owner_in queue.new) (left_in queue.new) posters capacity }
 {
@@ -74,15 +70,12 @@ pub extern "C" fn tlsf_queue_open(
 /// ```
 #[unsafe(no_mangle)]
 pub extern "C" fn tlsf_poster_open(queue: &mut EndSlot, poster: &mut EndSlot) -> u32
-    ensures queue_closed { end_serves queue.old ≡ false → (result ≡ closed) × (queue.new ≡ queue.old) }
-    ensures other { end_serves queue.old ≡ true → holds_queue queue.old ≡ false → (result ≡ other_kind) × (queue.new ≡ queue.old) }
-    ensures in_use { end_serves queue.old ≡ true → holds_queue queue.old ≡ true → poster.old.is_open ≡ true → (result ≡ in_use) × (queue.new ≡ queue.old) }
-    ensures none_left { end_serves queue.old ≡ true → holds_queue queue.old ≡ true → poster.old.is_open ≡ false → length (left_in queue.old) ≡ 0 → (result ≡ empty) × (left_in queue.new ≡ []) }
+    ensures queue { OnQueue queue.old queue.new result ((poster.old.is_open ≡ true → (result ≡ in_use) × (queue.new ≡ queue.old))
+        × (poster.old.is_open ≡ false → length (left_in queue.old) ≡ 0 → (result ≡ empty) × (left_in queue.new ≡ []))) }
+    ensures owner { owner_in queue.new ≡ owner_in queue.old }
     ensures succeeds { end_serves queue.old ≡ true → poster.old.is_open ≡ false → 0 < length (left_in queue.old) → result ≡ 0 }
     ensures refused { ¬ (result ≡ 0) → poster.new ≡ poster.old }
-    ensures opens { result ≡ 0 → poster.new.is_open ≡ true }
-    ensures given { result ≡ 0 → Gives (queue_in queue.old) (queue_in queue.new) poster.new.inner.value }
-    ensures owner { (end_serves queue.new ≡ end_serves queue.old) × (holds_queue queue.new ≡ holds_queue queue.old) × (owner_in queue.new ≡ owner_in queue.old) }
+    ensures given { result ≡ 0 → (poster.new.is_open ≡ true) × Gives (queue_in queue.old) (queue_in queue.new) poster.new.inner.value }
 {
     if !queue.serves() {
         return CallFault::Closed.refusal();
@@ -94,12 +87,7 @@ pub extern "C" fn tlsf_poster_open(queue: &mut EndSlot, poster: &mut EndSlot) ->
             CallFault::OtherKind.number()
         };
     }
-    let AnyEnd::Queue { is_in_use, end } = queue.inner.lend() else {
-        return CallFault::OtherKind.refusal();
-    };
-    *is_in_use = true;
-    let given = give_one(end);
-    *is_in_use = false;
+    let given = on_end!(queue, Queue, end => give_one(end));
     match given {
         Some(boxed) => {
             poster.put_in(boxed);
@@ -118,10 +106,7 @@ pub extern "C" fn tlsf_poster_open(queue: &mut EndSlot, poster: &mut EndSlot) ->
 /// ```
 #[unsafe(no_mangle)]
 pub extern "C" fn tlsf_poster_close(alloc: Global, poster: &mut EndSlot) -> u32
-    ensures after { result ≡ 0 → poster.new.is_open ≡ false }
-    ensures closed { end_serves poster.old ≡ false → (result ≡ closed) × (poster.new ≡ poster.old) }
-    ensures other { end_serves poster.old ≡ true → holds_poster poster.old ≡ false → (result ≡ other_kind) × (poster.new ≡ poster.old) }
-    ensures open { end_serves poster.old ≡ true → holds_poster poster.old ≡ true → result ≡ 0 }
+    ensures { ClosesEnd (holds_poster poster.old) poster.old poster.new result }
 {
     if !poster.serves() {
         return CallFault::Closed.number();
@@ -142,10 +127,7 @@ pub extern "C" fn tlsf_poster_close(alloc: Global, poster: &mut EndSlot) -> u32
 /// ```
 #[unsafe(no_mangle)]
 pub extern "C" fn tlsf_queue_close(alloc: Global, queue: &mut EndSlot) -> u32
-    ensures after { result ≡ 0 → queue.new.is_open ≡ false }
-    ensures closed { end_serves queue.old ≡ false → (result ≡ closed) × (queue.new ≡ queue.old) }
-    ensures other { end_serves queue.old ≡ true → holds_queue queue.old ≡ false → (result ≡ other_kind) × (queue.new ≡ queue.old) }
-    ensures open { end_serves queue.old ≡ true → holds_queue queue.old ≡ true → result ≡ 0 }
+    ensures { ClosesEnd (holds_queue queue.old) queue.old queue.new result }
 {
     if !queue.serves() {
         return CallFault::Closed.number();
@@ -167,23 +149,15 @@ pub extern "C" fn tlsf_queue_close(alloc: Global, queue: &mut EndSlot) -> u32
 /// ```
 #[unsafe(no_mangle)]
 pub extern "C" fn tlsf_queue_post(poster: &mut EndSlot, name: BlockName) -> u32
-    ensures closed { end_serves poster.old ≡ false → (result ≡ closed) × (poster.new ≡ poster.old) }
-    ensures other { end_serves poster.old ≡ true → holds_poster poster.old ≡ false → (result ≡ other_kind) × (poster.new ≡ poster.old) }
-    ensures open { end_serves poster.old ≡ true → (end_serves poster.new ≡ true) × (holds_poster poster.new ≡ holds_poster poster.old) }
+    ensures poster { OnPoster poster.old poster.new result (¬ (result ≡ 0) → ((result ≡ full) ⊎ (result ≡ busy)) × (put_in poster.new ≡ put_in poster.old)) }
     ensures queue { KeepsEnd (end_in poster.old) (end_in poster.new) }
     ensures posted { result ≡ 0 → Puts (end_in poster.old) (end_in poster.new) (name_of name) }
-    ensures missed { end_serves poster.old ≡ true → holds_poster poster.old ≡ true → ¬ (result ≡ 0) → ((result ≡ full) ⊎ (result ≡ busy)) × (put_in poster.new ≡ put_in poster.old) }
     ensures full { result ≡ full → SawFull (end_in poster.old) }
 {
     if !poster.serves() {
         return CallFault::Closed.refusal();
     }
-    let AnyEnd::Poster { is_in_use, end } = poster.inner.lend() else {
-        return CallFault::OtherKind.refusal();
-    };
-    *is_in_use = true;
-    let answer = put_once(end, name.name());
-    *is_in_use = false;
+    let answer = on_end!(poster, Poster, end => put_once(end, name.name()));
     match answer {
         Ok(()) => 0,
         Err(why) => why.number(),
@@ -201,31 +175,21 @@ pub extern "C" fn tlsf_queue_post(poster: &mut EndSlot, name: BlockName) -> u32
 /// ```
 #[unsafe(no_mangle)]
 pub extern "C" fn tlsf_queue_take(queue: &mut EndSlot, name: &mut BlockName) -> u32
-    ensures closed { end_serves queue.old ≡ false → (result ≡ closed) × (queue.new ≡ queue.old) }
-    ensures other { end_serves queue.old ≡ true → holds_queue queue.old ≡ false → (result ≡ other_kind) × (queue.new ≡ queue.old) }
-    ensures open { end_serves queue.old ≡ true → (end_serves queue.new ≡ true) × (holds_queue queue.new ≡ holds_queue queue.old) }
+    ensures owner { OnQueue queue.old queue.new result (¬ (result ≡ 0) → ((result ≡ empty) ⊎ (result ≡ busy)) × (got_in queue.new ≡ got_in queue.old)) }
     ensures queue { KeepsQueue (owner_in queue.old) (owner_in queue.new) × (left_in queue.new ≡ left_in queue.old) }
     ensures taken { result ≡ 0 → Gets (owner_in queue.old) (owner_in queue.new) (name_of name.new) }
-    ensures missed { end_serves queue.old ≡ true → holds_queue queue.old ≡ true → ¬ (result ≡ 0) → ((result ≡ empty) ⊎ (result ≡ busy)) × (got_in queue.new ≡ got_in queue.old) }
     ensures empty { result ≡ empty → AllTaken (owner_in queue.new) }
     ensures no_name { ¬ (result ≡ 0) → name.new ≡ name.old }
 {
     if !queue.serves() {
         return CallFault::Closed.refusal();
     }
-    let AnyEnd::Queue { is_in_use, end } = queue.inner.lend() else {
-        return CallFault::OtherKind.refusal();
-    };
-    *is_in_use = true;
-    let answer = take_name(end, name);
-    *is_in_use = false;
-    answer
+    on_end!(queue, Queue, end => take_name(end, name))
 }
 
 /// Takes the name that has waited longest out of a queue, by one attempt. It goes to `name`.
 fn take_name(end: &mut QueueEnd, name: &mut BlockName) -> u32
-    ensures queue { KeepsOwner end.old.owner end.new.owner }
-    ensures left { left_in_end end.new ≡ left_in_end end.old }
+    ensures queue { StaysOwner end.old end.new }
     ensures taken { result ≡ 0 → HasGot end.old.owner end.new.owner (name_of name.new) }
     ensures missed { ¬ (result ≡ 0) → ((result ≡ empty) ⊎ (result ≡ busy)) × (got_by end.new.owner ≡ got_by end.old.owner) }
     ensures empty { result ≡ empty → IsAllTaken end.new.owner }
@@ -256,45 +220,24 @@ pub extern "C" fn tlsf_queue_drain(
     most: u32,
     came: &mut u32,
 ) -> u32
-    ensures heap_closed { serves heap.old ≡ false → result ≡ closed }
-    ensures queue_closed { end_serves queue.old ≡ false → result ≡ closed }
-    ensures refused { ¬ (result ≡ 0) → (heap.new ≡ heap.old) × (queue.new ≡ queue.old) × (came.new ≡ came.old) }
-    ensures other { serves heap.old ≡ true → end_serves queue.old ≡ true → holds_queue queue.old ≡ false → result ≡ other_kind }
-    ensures open { serves heap.old ≡ true → end_serves queue.old ≡ true → holds_queue queue.old ≡ true → (result ≡ 0) × StaysOpen heap.old heap.new × (end_serves queue.new ≡ true) × (holds_queue queue.new ≡ true) }
+    ensures drains { DrainsEnd heap.old heap.new queue.old queue.new holds_queue result (λ posts. (got_in queue.new ≡ got_in queue.old ++ posts) × (length posts ≡ came.new)) }
     ensures queue { KeepsQueue (owner_in queue.old) (owner_in queue.new) × (left_in queue.new ≡ left_in queue.old) }
-    ensures drained { result ≡ 0 → (posts : List Post) × (got_in queue.new ≡ got_in queue.old ++ posts)
-        × (heap_in heap.new ≡ drained (heap_in heap.old) posts) × (length posts ≡ came.new) }
     ensures most { result ≡ 0 → came.new ≤ most }
-    ensures no_counts { result ≡ 0 → came.new ≡ 0 → counts_in heap.new ≡ counts_in heap.old }
-    ensures counts { result ≡ 0 → 0 < came.new → counts_in heap.new ≡ record (counts_in heap.old) { words = words_in_use (heap_in heap.new) } }
-    ensures touches { result ≡ 0 → touches_in heap.new ≤ touches_in heap.old + release_touches * came.new }
-    ensures leaves { result ≡ 0 → (posts : List Post) × (got_in queue.new ≡ got_in queue.old ++ posts)
-        × LeavesUnnamed (heap_in heap.old).blocks posts (touched_in heap.old) (touched_in heap.new) }
+    ensures kept { ¬ (result ≡ 0) → came.new ≡ came.old }
 {
     if !heap.serves() || !queue.serves() {
         return CallFault::Closed.refusal();
     }
-    let AnyEnd::Queue { is_in_use, end } = queue.inner.lend() else {
-        return CallFault::OtherKind.refusal();
-    };
-    *is_in_use = true;
-    *came = drain_names(heap, end, most);
-    *is_in_use = false;
+    on_end!(queue, Queue, end => *came = drain_names(heap, end, most));
     0
 }
 
 /// Takes names out of a queue, at most `most`, and releases the block that each names. Answers how many came. The heap is open.
 fn drain_names(heap: &mut HeapSlot, end: &mut QueueEnd, most: u32) -> u32
     requires { serves heap.old ≡ true }
-    ensures open { StaysOpen heap.old heap.new }
-    ensures queue { KeepsOwner end.old.owner end.new.owner }
-    ensures left { left_in_end end.new ≡ left_in_end end.old }
-    ensures drained { (posts : List Post) × (got_by end.new.owner ≡ got_by end.old.owner ++ posts) × (heap_in heap.new ≡ drained (heap_in heap.old) posts) × (length posts ≡ result)
-        × LeavesUnnamed (heap_in heap.old).blocks posts (touched_in heap.old) (touched_in heap.new) }
+    ensures queue { StaysOwner end.old end.new }
+    ensures drained { (posts : List Post) × ((got_by end.new.owner ≡ got_by end.old.owner ++ posts) × (length posts ≡ result)) × Drains heap.old heap.new posts }
     ensures most { result ≤ most }
-    ensures no_counts { result ≡ 0 → counts_in heap.new ≡ counts_in heap.old }
-    ensures counts { 0 < result → counts_in heap.new ≡ record (counts_in heap.old) { words = words_in_use (heap_in heap.new) } }
-    ensures touches { touches_in heap.new ≤ touches_in heap.old + release_touches * result }
 {
     let mut count = 0;
     let mut left = most;
@@ -312,14 +255,8 @@ fn drain_names(heap: &mut HeapSlot, end: &mut QueueEnd, most: u32) -> u32
 /// Takes a post out of a queue, and releases the block that it names. Whether one came. The heap is open.
 fn drain_one(heap: &mut HeapSlot, end: &mut QueueEnd) -> bool
     requires { serves heap.old ≡ true }
-    ensures open { StaysOpen heap.old heap.new }
-    ensures queue { KeepsOwner end.old.owner end.new.owner }
-    ensures left { left_in_end end.new ≡ left_in_end end.old }
-    ensures came { result ≡ true → (post : Post) × (got_by end.new.owner ≡ got_by end.old.owner ++ post ∷ [])
-        × (heap_in heap.new ≡ drained (heap_in heap.old) (post ∷ []))
-        × LeavesUnnamed (heap_in heap.old).blocks (post ∷ []) (touched_in heap.old) (touched_in heap.new) }
-    ensures counts { result ≡ true → counts_in heap.new ≡ record (counts_in heap.old) { words = words_in_use (heap_in heap.new) } }
-    ensures touches { touches_in heap.new ≤ touches_in heap.old + release_touches }
+    ensures queue { StaysOwner end.old end.new }
+    ensures came { result ≡ true → (post : Post) × (got_by end.new.owner ≡ got_by end.old.owner ++ post ∷ []) × Drains heap.old heap.new (post ∷ []) }
     ensures none { result ≡ false → (heap.new ≡ heap.old) × (got_by end.new.owner ≡ got_by end.old.owner) }
 {
     match take_once(end) {

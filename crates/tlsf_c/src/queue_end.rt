@@ -1,8 +1,8 @@
 //! The owner's end of a queue, with the posters' ends that nobody was given yet.
-ghost use Rattle.std.specs.Prelude.{◌≡◌, ◌⊎◌, ◌+◌, ◌<◌, ◌≤◌, List, [], ◌∷◌, ◌++◌, map, length, false, None, All, IfOk, IfSome, IfErr, MatchResult};
+ghost use Rattle.std.specs.Prelude.{◌≡◌, ◌⊎◌, ◌+◌, ◌<◌, ◌≤◌, List, [], ◌∷◌, ◌++◌, map, length, None, All, IfOk, IfSome, IfErr, MatchResult};
 ghost use Rattle.tlsf_post.specs.declared.poster_end.PosterEnd.{PosterEnd};
-ghost use Rattle.tlsf_post.specs.Mailboxes.{put_by, owner_of, out_of, most_of, got_by, known_to, KeepsOwner, KeepsPoster, IsAllTaken, IsWhole};
-ghost use Rattle.tlsf_c.specs.Ends.{idle_poster, left_in_end, HasGiven, HasPut, WasFull};
+ghost use Rattle.tlsf_post.specs.Mailboxes.{put_by, owner_of, out_of, most_of, got_by, known_to, KeepsPoster, IsAllTaken, IsWhole};
+ghost use Rattle.tlsf_c.specs.Ends.{idle_poster, left_in_end, HasGiven, HasPut, WasFull, StaysOwner};
 ghost use Rattle.tlsf_c.specs.declared.call_fault.CallFault.TheVariants.{Full, Empty, Busy};
 
 use crate::any_end::AnyEnd;
@@ -72,8 +72,7 @@ pub fn put_once(end: &mut PosterEnd, name: Name) -> Result<(), CallFault>
 
 /// Takes a post by one attempt. It is Busy where another thread was half through putting it, as far as it saw.
 pub fn take_once(end: &mut QueueEnd) -> Result<Post, CallFault>
-    ensures queue { KeepsOwner end.old.owner end.new.owner }
-    ensures left { left_in_end end.new ≡ left_in_end end.old }
+    ensures queue { StaysOwner end.old end.new }
     ensures taken { MatchResult result (λ p. got_by end.new.owner ≡ got_by end.old.owner ++ p ∷ []) (λ why. (got_by end.new.owner ≡ got_by end.old.owner) × ((why ≡ Empty) ⊎ (why ≡ Busy))) }
     ensures empty { IfErr result (λ why. why ≡ Empty → IsAllTaken end.new.owner) }
 {

@@ -10,5 +10,5 @@ unused h = by_reset (λ o. status_of o.answer ≡ 0 → words_in_use o.heap ≡ 
 
 pub returns-clause-words : goal.returns-clause-words
 returns-clause-words c serves zero =
-    let e = c.reset-answer.ensures in
-    ap (λ (t : HeapCounts). t.words) e.counts ∙ ap words_in_use e.resets.heap ∙ unused _ (sym (ap status_of e.resets.answer_is) ∙ sym c.status-number.ensures ∙ zero)
+    let e = c.reset.ensures in
+    ap (λ (t : HeapCounts). t.words) e.goes_on.counts ∙ ap words_in_use e.resets.heap ∙ unused _ (sym (ap status_of e.resets.answer_is) ∙ sym c.status-answer.ensures ∙ zero)

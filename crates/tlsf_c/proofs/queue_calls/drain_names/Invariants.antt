@@ -1,23 +1,14 @@
-use Rattle.tlsf_c.proofs.Common.{◌≡◌, ◌+◌, ◌*◌, ◌<◌, ◌≤◌, true, List, ◌++◌, length, release_touches, words_in_use, Post, drained, LeavesUnnamed, GoesOn, serves, counts_in, heap_in, touches_in, touched_in}
-use Rattle.tlsf_c.specs.Ends.{left_in_end}
-use Rattle.tlsf_post.specs.Mailboxes.{got_by, KeepsOwner}
+use Rattle.tlsf_c.proofs.Common.{◌≡◌, ◌+◌, ◌≤◌, List, ◌++◌, length, Post}
+use Rattle.tlsf_c.specs.Drains.{Drains}
+use Rattle.tlsf_post.specs.Mailboxes.{got_by}
+use Rattle.tlsf_c.specs.Ends.{StaysOwner}
 use Rattle.tlsf_c.proofs.queue_calls.drain_names.Given as goal
 
 abbrev pub invariant-loop-left : goal.invariant-loop-left
 invariant-loop-left l = record {
-  heap : serves l.heap ≡ true;
-  goes_on : GoesOn l.fn.heap.inner.value.heap l.heap.inner.value.heap;
-  base : l.heap.base ≡ l.fn.heap.base;
-  number : l.heap.number ≡ l.fn.heap.number;
-  mixed : l.heap.is_mixed ≡ l.fn.heap.is_mixed;
   few : l.count + l.left ≤ l.most;
-  kept : KeepsOwner l.fn.end.owner l.end.owner;
-  left : left_in_end l.end ≡ left_in_end l.fn.end;
-  no_counts : l.count ≡ 0 → counts_in l.heap ≡ counts_in l.fn.heap;
-  counts : 0 < l.count → counts_in l.heap ≡ record (counts_in l.fn.heap) { words = words_in_use (heap_in l.heap) };
-  posts : (posts : List Post) × (got_by l.end.owner ≡ got_by l.fn.end.owner ++ posts) × (heap_in l.heap ≡ drained (heap_in l.fn.heap) posts) × (length posts ≡ l.count)
-      × LeavesUnnamed (heap_in l.fn.heap).blocks posts (touched_in l.fn.heap) (touched_in l.heap);
-  touches : touches_in l.heap ≤ touches_in l.fn.heap + release_touches * l.count;
+  kept : StaysOwner l.fn.end l.end;
+  posts : (posts : List Post) × ((got_by l.end.owner ≡ got_by l.fn.end.owner ++ posts) × (length posts ≡ l.count)) × Drains l.fn.heap l.heap posts;
 }
 
 abbrev pub decreases-loop-left : goal.decreases-loop-left

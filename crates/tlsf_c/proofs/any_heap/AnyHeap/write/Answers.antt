@@ -1,4 +1,4 @@
-use Rattle.tlsf_c.proofs.Common.{◌≡◌, ℕ, Result, sym, ap, ◌∙◌, LevelHeap, Refusal}
+use Rattle.tlsf_c.proofs.Common.{◌≡◌, Result, sym, ap, ◌∙◌, LevelHeap, Refusal}
 use Rattle.tlsf_c.specs.declared.any_heap.OfLevel.{OfLevel}
 use Rattle.tlsf_c.specs.LevelOf.{shown}
 use Rattle.tlsf_c.specs.declared.any_heap.AnyHeap.TheInside.{Inside}
