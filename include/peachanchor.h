@@ -19,8 +19,8 @@
  * Answers: TLSF_OK, which is 0, or a refusal of `enum tlsf_answer`. A refused call writes nothing through its pointers, except
  *   for the `damaged` of a check. It changes nothing but what tlsf_counts tells; only one that is made of several proved calls
  *   may take ticks besides. The compiler warns where an answer is ignored, except for calls that close, free, release or drain.
- * Time: only reports, tlsf_check, tlsf_pools_check, tlsf_reset, tlsf_drain, tlsf_queue_drain, tlsf_put_all and tlsf_take_all, opening,
- *   tlsf_pools_words and tlsf_pools_bytes, closing a queue, what finds a part of pools, eight at most, or the row of a length, 64 at
+ * Time: only reports, tlsf_check, tlsf_pools_check, tlsf_reset, tlsf_release_all, tlsf_drain, tlsf_queue_drain, tlsf_put_all and
+ *   tlsf_take_all, opening, tlsf_pools_words and tlsf_pools_bytes, closing a queue, what finds a part of pools, eight at most, or the row of a length, 64 at
  *   most, and what fills or copies payload run a loop. Only opening takes memory, and only closing gives it back. No call waits, locks
  *   or makes a system call, except as malloc and free do.
  *
@@ -455,6 +455,10 @@ TLSF_ANSWER uint32_t tlsf_allocate(struct tlsf_heap *heap, size_t len, struct tl
  * Refused: TLSF_IS_CLOSED, TLSF_FOREIGN, TLSF_STALE, TLSF_WORN. */
 TLSF_BY_VALUE uint32_t tlsf_release(struct tlsf_heap *heap, struct tlsf_name name) TLSF_NOEXCEPT;
 
+/* Releases the blocks of `n` names in their order. A name that the heap refuses is passed over. The handle is looked at once, so this
+ * takes less time than `n` calls. Refused: TLSF_IS_CLOSED. */
+uint32_t tlsf_release_all(struct tlsf_heap *heap, const struct tlsf_name *names, size_t n) TLSF_NOEXCEPT;
+
 /* Gives a block `len` bytes where it stands. Its name stays, and so do its bytes up to the smaller length. New bytes are zero.
  * Refused: TLSF_IS_CLOSED, TLSF_FOREIGN, TLSF_STALE, TLSF_NO_ROOM, TLSF_WORN. */
 TLSF_ANSWER TLSF_BY_VALUE uint32_t tlsf_resize(struct tlsf_heap *heap, struct tlsf_name name, size_t len) TLSF_NOEXCEPT;
@@ -528,8 +532,8 @@ TLSF_ANSWER uint32_t tlsf_take(struct tlsf_take_end *take, struct tlsf_name *nam
 TLSF_ANSWER uint32_t tlsf_take_all(struct tlsf_take_end *take, struct tlsf_name *names, size_t n, size_t *came) TLSF_NOEXCEPT;
 
 /* Takes at most `most` names out of a lane, and releases their blocks. How many names came goes to `came`. A name whose release
- * is refused counts too. It is tlsf_take_all and tlsf_release, inline, so that headers are fetched ahead; and where blocks lie near
- * each other the archive's drain, which a pointer to this function calls. Refused: TLSF_IS_CLOSED, where either handle isn't open. */
+ * is refused counts too. It is tlsf_take_all and tlsf_release_all, inline, so that headers are fetched before; and where blocks lie
+ * near each other the archive's drain, which a pointer to this function calls. Refused: TLSF_IS_CLOSED, where either handle isn't open. */
 uint32_t tlsf_drain(struct tlsf_heap *heap, struct tlsf_take_end *take, uint32_t most, uint32_t *came) TLSF_NOEXCEPT;
 
 /* --- A queue: names go from several threads to the one that owns their heap ---------------------------------------
@@ -579,8 +583,8 @@ TLSF_ANSWER TLSF_BY_VALUE uint32_t tlsf_queue_post(struct tlsf_poster *poster, s
 TLSF_ANSWER uint32_t tlsf_queue_take(struct tlsf_queue *queue, struct tlsf_name *name) TLSF_NOEXCEPT;
 
 /* Takes at most `most` names out of a queue, up to the first that it doesn't get, and releases their blocks. How many names came
- * goes to `came`. A name whose release is refused counts too. It is tlsf_queue_take and tlsf_release, inline; a pointer to this
- * function calls the archive's drain. Refused: TLSF_IS_CLOSED, where either handle isn't open. */
+ * goes to `came`. A name whose release is refused counts too. It is tlsf_queue_take and tlsf_release_all, inline; a pointer to
+ * this function calls the archive's drain. Refused: TLSF_IS_CLOSED, where either handle isn't open. */
 uint32_t tlsf_queue_drain(struct tlsf_heap *heap, struct tlsf_queue *queue, uint32_t most, uint32_t *came) TLSF_NOEXCEPT;
 
 /* --- Offsets: memory that the processor never touches, as a graphics card's ------------------------------------------

@@ -382,12 +382,21 @@ TLSF_BODY bool tlsf_lie_near(const struct tlsf_name *names, size_t n) TLSF_NOEXC
     return n != 0 && last - first < 64 * n;
 }
 
-/* Releases blocks in the order of their names, whatever the heap answers. Four headers are on their way meanwhile. */
+#if defined(TLSF_TRACE) || defined(TLSF_MARKED) || defined(TLSF_CHECKED)
+/* Where calls are written, marked or looked at first, each name is released by a call of its own. */
+TLSF_BODY uint32_t tlsf_released_all(struct tlsf_heap *heap, const struct tlsf_name *names, size_t n) TLSF_NOEXCEPT {
+    struct tlsf_heap_counts counts = {0, 0, 0, 0};
+    const uint32_t answer = tlsf_counts(heap, &counts); /* what the heap refuses, before a name is released */
+    for (size_t k = 0; answer == TLSF_OK && k < n; k++) (void)tlsf_release(heap, names[k]);
+    return answer;
+}
+#define tlsf_release_all tlsf_released_all
+#endif
+
+/* Releases blocks in the order of their names, whatever the heap answers. All their headers are on their way first. */
 TLSF_BODY void tlsf_release_ahead(struct tlsf_heap *heap, const struct tlsf_name *names, size_t n) TLSF_NOEXCEPT {
-    for (size_t k = 0; k < n + 4; k++) {
-        if (k < n) tlsf_fetch_named(heap, names[k]);
-        if (k >= 4) tlsf_release(heap, names[k - 4]);
-    }
+    for (size_t k = 0; k < n; k++) tlsf_fetch_named(heap, names[k]);
+    (void)tlsf_release_all(heap, names, n);
 }
 
 /* The rest of a lane's names, by the archive's call. It knows no marks, looks at no header before, and writes no trace: then none are
@@ -437,7 +446,7 @@ TLSF_BODY uint32_t tlsf_queue_drain_ahead(struct tlsf_heap *heap, struct tlsf_qu
     do {
         for (part = 0; part < 4 && part < most - count && tlsf_queue_take(queue, &names[part]) == TLSF_OK; part++)
             tlsf_fetch_named(heap, names[part]);
-        for (uint32_t k = 0; k < part; k++) tlsf_release(heap, names[k]);
+        (void)tlsf_release_all(heap, names, part);
         count += part;
     } while (part == 4);
     *came = count;

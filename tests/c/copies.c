@@ -30,6 +30,7 @@ static void is_refused(struct tlsf_heap *copy) {
     copies++;
     wants("allocate", tlsf_allocate(copy, 8, &own), TLSF_IS_CLOSED);
     wants("release", tlsf_release(copy, name), TLSF_IS_CLOSED);
+    wants("release_all", tlsf_release_all(copy, &name, 1), TLSF_IS_CLOSED);
     wants("reset", tlsf_reset(copy), TLSF_IS_CLOSED);
     wants("resize", tlsf_resize(copy, name, 16), TLSF_IS_CLOSED);
     wants("reallocate", tlsf_reallocate(copy, &own, 16), TLSF_IS_CLOSED);

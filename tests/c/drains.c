@@ -17,6 +17,13 @@ static uint32_t seen_release(struct tlsf_heap *heap, struct tlsf_name name) {
     return tlsf_release(heap, name);
 }
 #define tlsf_release seen_release
+#if !defined(TLSF_TRACE) && !defined(TLSF_MARKED) && !defined(TLSF_CHECKED)
+static uint32_t seen_release_all(struct tlsf_heap *heap, const struct tlsf_name *names, size_t n) {
+    for (size_t k = 0; k < n; k++) seen[seen_count++ % (2 * CAPACITY)] = names[k];
+    return tlsf_release_all(heap, names, n);
+}
+#define tlsf_release_all seen_release_all
+#endif
 #include "tlsf_inline.h"
 
 #if defined(TLSF_TRACE) || defined(TLSF_MARKED)

@@ -102,6 +102,7 @@ static void of_a_heap(void) {
     USES(on_heap, tlsf_check_request(&heap, 100, &damaged));
     USES(on_heap, tlsf_resize(&heap, name, 200));
     USES(on_heap, tlsf_reallocate(&heap, &name, 392));
+    USES(on_heap, tlsf_release_all(&heap, &name, 0));
     USES(on_heap, tlsf_release(&heap, name));
     USES(on_heap, (at = tlsf_allocate_place(&heap, 100)).answer);
     USES(on_heap, tlsf_resize_place(&heap, at.at, 200, &next));

@@ -221,6 +221,11 @@ uint32_t tlsf_release(struct tlsf_heap *heap, struct tlsf_name name) {
     return answer == TLSF_OK ? release(heap->held, found) : answer;
 }
 
+uint32_t tlsf_release_all(struct tlsf_heap *heap, const struct tlsf_name *names, size_t n) {
+    for (size_t k = 0; heap->is_open && k < n; k++) (void)tlsf_release(heap, names[k]);
+    return heap->is_open ? TLSF_OK : TLSF_IS_CLOSED;
+}
+
 /* Gives a block so many bytes where it stands, and leaves them as they are. */
 static uint32_t resize(struct plain *p, struct piece *found, uint32_t len) {
     const uint32_t k = (uint32_t)(found - p->pieces);

@@ -1,9 +1,12 @@
 -- A drain goes on: what it did by some posts, and then by more.
-use Rattle.tlsf_c.proofs.Common.{◌≡◌, ℕ, ◌+◌, ◌<◌, ◌++◌, [], ◌∷◌, List, length, length-append, take, ap, sym, ◌∙◌, subst, arith, true, Post, heap_in, touched_in, counts_in, serves, words_in_use}
+use Rattle.tlsf_c.proofs.Common.{◌≡◌, ℕ, ◌+◌, ◌<◌, ◌++◌, [], ◌∷◌, List, Result, length, length-append, take, ap, sym, ◌∙◌, subst, arith, true, release_touches, Name, Refusal, Seen, Post, heap_in, touched_in, counts_in, serves, words_in_use, posts_named, post_of, name_of}
 use lib.ListN.{get_or}
-use Rattle.tlsf_c.specs.Drains.{Drains}
+use Rattle.std.proofs.lemmas.List.{map_more}
+use Rattle.tlsf_heap.specs.Effects.{Releases}
+use Rattle.tlsf_c.specs.Drains.{Drains, ReleasesAll}
 use Rattle.tlsf_c.specs.Handles.{ReleasesIn}
 use Rattle.tlsf_c.specs.declared.heap_slot.HeapSlot.{HeapSlot}
+use Rattle.tlsf_c.specs.declared.names.BlockName.{BlockName}
 use Rattle.tlsf_c.proofs.Draining.{released_more, drained_none, counts_more}
 use Rattle.tlsf_c.proofs.LeftUnnamed.{leaves_one, leaves_more, one_longer}
 
@@ -49,3 +52,17 @@ pub drains_next : (posts : List Post) (i : ℕ) (d : Post) → i < length posts 
 drains_next posts i d inside first last now answer before gone =
     subst (λ (l : List Post). Drains first now l) (sym (one_longer posts i d inside))
     (drains_more first last now (take i posts) (get_or posts i d ∷ []) before (one_released last now (get_or posts i d) answer before.stays.serves gone))
+
+-- one name more of several
+pub released_next : (names : List BlockName) (i : ℕ) (d : BlockName) → i < length names → (name : Name) → name ≡ name_of (get_or names i d) → (first last now : Seen) {answer : Result (Unit {0}) Refusal}
+    → ReleasesAll first last (posts_named (take i names)) → Releases release_touches last now name answer → ReleasesAll first now (posts_named (take (i + 1) names))
+released_next names i d inside name is first last now before gone =
+    let one = post_of name in
+    let some = posts_named (take i names) in
+    let longer : posts_named (take (i + 1) names) ≡ some ++ one ∷ [] = map_more (λ n. post_of (name_of n)) names i d inside ∙ ap (λ (n : Name). some ++ post_of n ∷ []) (sym is) in
+    subst (ReleasesAll first now) (sym longer) (record {
+      heap = released_more first.heap last.heap now.heap some (one ∷ []) before.heap gone.heap;
+      touches = omega (arith, before.touches, gone.touches, length-append some (one ∷ []));
+      rise = omega (arith, before.rise, gone.rise);
+      leaves = leaves_more first.heap last.heap some (one ∷ []) first.touched last.touched now.touched before.heap before.leaves (leaves_one last.heap.blocks one last.touched now.touched gone.leaves);
+    })

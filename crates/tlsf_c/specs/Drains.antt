@@ -5,6 +5,7 @@ use Rattle.tlsf_words.specs.Touched.{times}
 use Rattle.tlsf_heap.specs.Blocks.{Block, HeapState}
 use Rattle.tlsf_heap.specs.Calls.{released}
 use Rattle.tlsf_heap.specs.Footprint.{IsOthersWord}
+use Rattle.tlsf_heap.specs.Shown.{Seen}
 use Rattle.tlsf_heap.specs.Touched.{release_touches}
 use Rattle.tlsf_post.specs.declared.post.Post.{Post}
 use Rattle.tlsf_c.specs.Counting.{recounted}
@@ -21,7 +22,14 @@ drained h posts = fold (λ h post. (released h post.name).heap) h posts
 abbrev pub LeavesUnnamed : List Block → List Post → List ℕ → List ℕ → Type 0
 LeavesUnnamed blocks posts old new = (k : ℕ) → AllByRecursion (λ p. IsOthersWord blocks p.name.at k) posts → times new k ≡ times old k
 
--- the blocks of these posts are released, in their order, whatever the heap answers: what that does to an open handle
+-- the blocks of these posts are released, in their order, whatever the heap answers
+pub record ReleasesAll (old new : Seen) (posts : List Post) : Type 0 where
+  pub heap : new.heap ≡ drained old.heap posts
+  pub touches : new.touches ≤ old.touches + release_touches * length posts
+  pub rise : old.touches ≤ new.touches
+  pub leaves : LeavesUnnamed old.heap.blocks posts old.touched new.touched
+
+-- what that does to an open handle
 pub record Drains (old new : HeapSlot) (posts : List Post) : Type 0 where
   pub stays : StaysOpen old new
   pub drained : heap_in new ≡ drained (heap_in old) posts

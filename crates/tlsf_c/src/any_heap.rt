@@ -7,13 +7,17 @@ ghost use Rattle.tlsf_heap.specs.Effects.{Allocates, Locates, Reads, Releases, R
 ghost use Rattle.tlsf_heap.specs.Touched.{allocate_touches, read_touches, release_touches, reset_touches, resize_touches, write_touches};
 ghost use Rattle.tlsf_heap.specs.WordsInUse.{words_in_use};
 ghost use Rattle.tlsf_c.specs.Counting.{no_counts, counted, counted_request, recounted};
+ghost use Rattle.tlsf_c.specs.Drains.{ReleasesAll};
+ghost use Rattle.tlsf_c.specs.Handles.{posts_named};
 ghost use Rattle.tlsf_c.specs.Levels.{GoesOn, seen_at, GoesOnWith, IsLevel};
+ghost use Rattle.tlsf_heap.specs.Shown.{seen};
 
 mod around;
 mod by_place;
 
 use crate::at_level::at_level;
 use crate::heap_counts::HeapCounts;
+use crate::names::BlockName;
 use crate::refused::Refused;
 use std::alloc::Global;
 use std::marker::Model;
@@ -87,6 +91,14 @@ impl AnyHeap {
         at_level!(OfLevel, &mut self.of_level, heap => heap.release(name))
     }
 
+    /// `Heap::release` of each name, in their order, whatever it answers.
+    pub fn release_all(&mut self, names: &[BlockName])
+        ensures releases { ReleasesAll (seen_at self.old) (seen_at self.new) (posts_named names.now) }
+        ensures goes_on { GoesOnWith self.old self.new (recounted self.old.counts self.new.heap) }
+    {
+        at_level!(OfLevel, &mut self.of_level, heap => release_each(heap, names))
+    }
+
     /// `Heap::reset`.
     pub fn reset(&mut self) -> Result<(), Refusal>
         ensures resets { Resets reset_touches (seen_at self.old) (seen_at self.new) result }
@@ -152,5 +164,16 @@ impl AnyHeap {
             refused: self.refused.requests,
             longest_refused: self.refused.longest,
         }
+    }
+}
+
+/// Releases the block of each name, in their order, whatever the heap answers.
+fn release_each<const SLI: u32>(heap: &mut Heap<SLI>, names: &[BlockName])
+    ensures releases { ReleasesAll (seen heap.old) (seen heap.new) (posts_named names.now) }
+    ensures stays { heap.new.extents ≡ heap.old.extents }
+    ensures most { heap.new.most_in_use ≡ heap.old.most_in_use }
+{
+    for block in names {
+        let _ = heap.release(block.name());
     }
 }

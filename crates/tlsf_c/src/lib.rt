@@ -35,6 +35,7 @@ mod pool_places;
 mod queue_calls;
 mod queue_end;
 mod refused;
+mod slice_calls;
 mod spans;
 
 use crate::arena_slot::ArenaSlot;

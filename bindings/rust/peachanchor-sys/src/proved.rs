@@ -35,6 +35,7 @@ extern "C" {
     #[must_use] pub fn tlsf_name_at(heap: *mut tlsf_heap, p: *const c_void, name: *mut tlsf_name) -> u32;
     #[must_use] pub fn tlsf_allocate_at(heap: *mut tlsf_heap, len: usize, align: usize, flags: u32, name: *mut tlsf_name, payload: *mut *mut c_void) -> u32;
     #[must_use] pub fn tlsf_allocate(heap: *mut tlsf_heap, len: usize, name: *mut tlsf_name) -> u32;
+    pub fn tlsf_release_all(heap: *mut tlsf_heap, names: *const tlsf_name, n: usize) -> u32;
     #[must_use] pub fn tlsf_reallocate(heap: *mut tlsf_heap, name: *mut tlsf_name, len: usize) -> u32;
     pub fn tlsf_base(heap: *const tlsf_heap) -> *mut u64;
     #[must_use] pub fn tlsf_lane_open_in(post: *mut tlsf_post_end, take: *mut tlsf_take_end, capacity: u32, memory: *mut c_void, bytes: usize) -> u32;
