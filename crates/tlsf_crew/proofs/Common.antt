@@ -44,7 +44,7 @@ pub use Rattle.tlsf_crew.specs.lanes.LaneWorkers.{end_from, id_and_capacity, end
 pub use Rattle.tlsf_crew.specs.lanes.NewLanes.{IsLaid, opened_numbers, IsBefore}
 pub use Rattle.tlsf_crew.specs.lanes.Ready.{count_of, ready_from, ready_below}
 unfoldable pub use Rattle.tlsf_crew.specs.lanes.Ready.{ready_in}
-pub use Rattle.tlsf_crew.specs.lanes.Settle.{EachLaneSettled, LaneSettled}
+pub use Rattle.tlsf_crew.specs.lanes.Settle.{EachLaneSettled, KeepsWorld, LaneSettled}
 pub use Rattle.tlsf_crew.specs.lanes.Yard.{IsYard, shown_in, take_at, post_at, capacity_in, lane_waits, heap_of_worker, waits_in, end_from_in, HasYardLane, end_to_in, BothBeside, id_in}
 unfoldable pub use Rattle.tlsf_crew.specs.lanes.Yard.{world_of}
 pub use Rattle.tlsf_crew.specs.model.Heaps.{as_chunk, too_many, bytes_read}
@@ -73,12 +73,12 @@ pub use Rattle.tlsf_crew.specs.scripts.EntryRoom.{releases_of, is_release, AreLa
 pub use Rattle.tlsf_crew.specs.scripts.Journals.{EntersTake, IsAdmitted, OneFewer}
 pub use Rattle.tlsf_crew.specs.scripts.LaneMoves.{LaneMoved, Spent, one, LaneStepped, PostEndMoved, TakeEndMoved, EachLaneSpent, EachLaneTaken, LaneTakenWithin, WorkerDrain, drain_at, lane_promise, took_by, took_each_lane, took_posts, LaneSpent, LaneTaken, SuitsCall, SuitsDrain, took_post}
 pub use Rattle.tlsf_crew.specs.scripts.QueueMoves.{QueueStepped, QueueMoved, entry_by, queue_promise}
-pub use Rattle.tlsf_crew.specs.scripts.Scripts.{last_call, script_of, at_stage, stage_of, ScriptRun, Stage, told_of, AreMoves, QuietCall, reply_released, IsNoTake, IsQuiet, ScriptPromise, TakenWithin, reply_took, CallMade, ReleasedAnywhere, Step, told_at}
-pub use Rattle.tlsf_crew.specs.worker.Calls.{AfterTake, ReleasedThere, by_heap, TakenFrom, posted_as, put_answer, ReleasedHere, TakesInTurn, PostedThere, freed_by}
+pub use Rattle.tlsf_crew.specs.scripts.Scripts.{last_call, script_of, at_stage, stage_of, ScriptRun, Stage, told_of, AreMoves, QuietCall, reply_released, IsNoTake, IsQuiet, ScriptPromise, TakenWithin, reply_took, CallMade, Step, told_at}
+pub use Rattle.tlsf_crew.specs.worker.Calls.{AfterTake, Posts, ReleasesOrPosts, ReleasedThere, by_heap, TakenFrom, posted_as, put_answer, ReleasedHere, TakesInTurn, PostedThere, freed_by}
 pub use Rattle.tlsf_crew.specs.worker.Drains.{IsCountOf, heap_after, is_freed}
 pub use Rattle.tlsf_crew.specs.worker.Notes.{EachNoted, EachTakeNoted, SourceNoted, TakeRules, AllNoted, SourceEnds, TurnNoted}
-pub use Rattle.tlsf_crew.specs.worker.Slices.{MayTake, PortsInTurn, EachReleased, SliceTaken, post_of}
-pub use Rattle.tlsf_crew.specs.worker.Workers.{heap_of, shown_of, id_of, SameButHeap, end_extents, extent_of, KeepsHeap, slot_of, IsHeapOf, SameButPorts, IsOther, Stays, touches_of}
+pub use Rattle.tlsf_crew.specs.worker.Slices.{KeepsRoom, MayTake, PortsInTurn, EachReleased, SliceTaken, post_of}
+pub use Rattle.tlsf_crew.specs.worker.Workers.{heap_of, shown_of, id_of, SameButHeap, end_extents, extent_of, KeepsHeap, slot_of, IsHeapOf, SameButPorts, IsOther, Stays, WorksWithin}
 pub use Rattle.tlsf_heap.specs.Blocks.{HeapState, want}
 pub use Rattle.tlsf_heap.specs.Calls.{opened, read_of, allocated_at, has_bytes, is_worn, named, read_answer, read_at, refused, resized_at, room_of, written_at}
 pub use Rattle.tlsf_heap.specs.Lawful.{IsLawful, IsRegion}

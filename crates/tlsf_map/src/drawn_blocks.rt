@@ -1,6 +1,5 @@
 //! The parts of a picture that show a block.
-ghost use Rattle.std.specs.Prelude.{◌≤◌, ◌^◌};
-ghost use Rattle.tlsf_map.specs.Layouts.{IsGrid};
+ghost use Rattle.tlsf_map.specs.Layouts.{AreWords};
 
 use crate::fold::{Fold, used_words};
 use crate::free_blocks::FreeBlocks;
@@ -17,9 +16,7 @@ fn write_end(
     grid: Grid,
     block: PlacedBlock,
     caption: &Caption,
-) -> Result<(), AllocError>
-    requires { IsGrid grid }
-{
+) -> Result<(), AllocError> {
     write_caption(
         text,
         grid,
@@ -37,9 +34,7 @@ fn write_free(
     free: FreeBlocks,
     block: PlacedBlock,
     stamp: u64,
-) -> Result<(), AllocError>
-    requires { IsGrid grid }
-{
+) -> Result<(), AllocError> {
     let class = if block.size == free.largest {
         "free largest"
     } else {
@@ -71,9 +66,7 @@ fn write_part(
     at: u64,
     words: u64,
 ) -> Result<(), AllocError>
-    requires grid { IsGrid grid }
-    requires place { at ≤ 2 ^ 33 }
-    requires few { words ≤ 2 ^ 33 }
+    requires { AreWords at words }
 {
     write!(text, "<g class='{class}'>")?;
     write_spread(text, grid, false, at, words)?;
@@ -86,9 +79,7 @@ fn write_fill(
     grid: Grid,
     block: PlacedBlock,
     length: u32,
-) -> Result<(), AllocError>
-    requires { IsGrid grid }
-{
+) -> Result<(), AllocError> {
     let fold = Fold::of(grid.row, block);
     let below = grid.below(fold.hidden());
     let at = u64::from(block.at);
@@ -106,9 +97,7 @@ fn write_live(
     drawn: LabelledBlock,
     serial: u64,
     length: u32,
-) -> Result<(), AllocError>
-    requires { IsGrid grid }
-{
+) -> Result<(), AllocError> {
     let at = drawn.block.at;
     let size = drawn.block.size;
     let unit = plural(u64::from(length), "byte", "bytes");
@@ -134,9 +123,7 @@ pub fn write_block(
     grid: Grid,
     free: FreeBlocks,
     drawn: LabelledBlock,
-) -> Result<(), AllocError>
-    requires { IsGrid grid }
-{
+) -> Result<(), AllocError> {
     match drawn.block.content {
         Content::Free { stamp } => write_free(text, grid, free, drawn.block, stamp),
         Content::Live { serial, length } => write_live(text, grid, drawn, serial, length),

@@ -1,5 +1,6 @@
 //! Rows that show words of one block alone, all alike: of three or more of them one is drawn for all.
 ghost use Rattle.std.specs.Prelude.{◌+◌, ◌<◌, ◌≤◌, ◌^◌};
+ghost use Rattle.tlsf_map.specs.Layouts.{IsRow};
 
 use tlsf_heap::{Content, PlacedBlock};
 
@@ -25,8 +26,7 @@ impl Fold {
     /// The rows of this many cells that lie wholly between two cells.
     #[tactic(auto, using(crate::proofs::Folding::div_mul_most))]
     pub fn between(row: u64, from: u64, end: u64) -> Fold
-        requires some { 1 ≤ row }
-        requires most { row ≤ 2 ^ 18 }
+        requires row { IsRow row }
         requires from { from ≤ 2 ^ 36 }
         requires end { end ≤ 2 ^ 36 }
         ensures begins { result.at < from + row }
@@ -44,8 +44,7 @@ impl Fold {
 
     /// The rows of a block, of this many words each, that show its payload alone, or free words after the first.
     pub fn of(row: u64, block: PlacedBlock) -> Fold
-        requires some { 1 ≤ row }
-        requires most { row ≤ 2 ^ 18 }
+        requires { IsRow row }
         ensures begins { result.at ≤ 2 ^ 33 }
         ensures ends { result.end ≤ 2 ^ 33 }
         ensures rows { result.rows ≤ 2 ^ 33 }

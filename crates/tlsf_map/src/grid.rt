@@ -1,17 +1,19 @@
 //! How words are laid out in rows.
 ghost use Rattle.std.specs.Prelude.{◌≤◌, ◌^◌};
-ghost use Rattle.tlsf_map.specs.Layouts.{IsGrid};
 
 use crate::fold::Fold;
 use crate::mapped_heap::LabelledBlock;
 
-/// Rows of equally many words. Lengths are in sixteenths of a pixel.
+/// Rows of equally many words, up to 262,144. Lengths are in sixteenths of a pixel.
 #[derive(Clone, Copy)]
 pub struct Grid {
     /// The words of a row, which is 16,384 wide.
     pub row: u64,
     /// How many rows above are not drawn.
     pub hidden: u64,
+    ghost some: { 1 ≤ row },
+    ghost most: { row ≤ 2 ^ 18 },
+    ghost few: { hidden ≤ 2 ^ 32 },
 }
 
 const MOST_WORDS_A_ROW: u64 = 262_144;
@@ -23,9 +25,7 @@ const MOST_HIDDEN_ROWS: u64 = 4_294_967_296;
 impl Grid {
     /// The grid of a heap with `words` words and these blocks. Its rows are of as few words as may be, from 64 up to 262,144 by
     /// powers of two. At most 64 rows are drawn with them.
-    pub fn of(words: u32, blocks: &[LabelledBlock]) -> Grid
-        ensures { IsGrid result }
-    {
+    pub fn of(words: u32, blocks: &[LabelledBlock]) -> Grid {
         let mut grid = Grid { row: 64, hidden: 0 };
         while grid.row < MOST_WORDS_A_ROW && grid.drawn_rows(words, blocks) > MOST_DRAWN_ROWS {
             grid.row = (2 * grid.row).min(MOST_WORDS_A_ROW);
@@ -35,8 +35,7 @@ impl Grid {
 
     /// The rows that this many words fill.
     pub fn rows(self, words: u64) -> u64
-        requires grid { IsGrid self }
-        requires few { words ≤ 2 ^ 34 }
+        requires { words ≤ 2 ^ 34 }
         ensures { result ≤ 2 ^ 35 }
     {
         (words + self.row - 1) / self.row
@@ -44,7 +43,6 @@ impl Grid {
 
     // Those of the rows of this many words that are drawn where these blocks lie in them.
     fn drawn_rows(self, words: u32, blocks: &[LabelledBlock]) -> u64
-        requires { IsGrid self }
         ensures { result ≤ 2 ^ 35 }
     {
         let mut rows = self.rows(u64::from(words));
@@ -56,7 +54,6 @@ impl Grid {
 
     /// The height of a heap with `words` words and these blocks, its numbers above them.
     pub fn height(self, words: u32, blocks: &[LabelledBlock]) -> u64
-        requires { IsGrid self }
         ensures { result ≤ 2 ^ 46 }
     {
         1280 + 640 * self.drawn_rows(words, blocks)
@@ -64,9 +61,7 @@ impl Grid {
 
     /// The grid below this many rows that are not drawn.
     pub fn below(self, rows: u64) -> Grid
-        requires grid { IsGrid self }
-        requires few { rows ≤ 2 ^ 36 }
-        ensures { IsGrid result }
+        requires { rows ≤ 2 ^ 36 }
     {
         Grid {
             row: self.row,
@@ -75,16 +70,12 @@ impl Grid {
     }
 
     /// The grid below a block.
-    pub fn below_block(self, drawn: LabelledBlock) -> Grid
-        requires { IsGrid self }
-        ensures { IsGrid result }
-    {
+    pub fn below_block(self, drawn: LabelledBlock) -> Grid {
         self.below(Fold::of(self.row, drawn.block).hidden())
     }
 
     /// Where a place is drawn, from the left.
     pub fn left(self, at: u64) -> u64
-        requires { IsGrid self }
         ensures { result ≤ 2 ^ 40 }
     {
         at % self.row * 16384 / self.row
@@ -92,8 +83,7 @@ impl Grid {
 
     /// Where the row of a place is drawn, from above.
     pub fn top(self, at: u64) -> u64
-        requires grid { IsGrid self }
-        requires place { at ≤ 2 ^ 34 }
+        requires { at ≤ 2 ^ 34 }
         ensures { result ≤ 2 ^ 46 }
     {
         800 + 640 * (at / self.row).saturating_sub(self.hidden)
@@ -101,8 +91,7 @@ impl Grid {
 
     /// How wide this many words of one row from a place on are.
     pub fn width(self, at: u64, words: u64) -> u64
-        requires grid { IsGrid self }
-        requires few { words ≤ 2 ^ 34 }
+        requires { words ≤ 2 ^ 34 }
     {
         let column = at % self.row;
         ((column + words) * 16384 / self.row).saturating_sub(column * 16384 / self.row)

@@ -1,5 +1,4 @@
 ghost use Rattle.std.specs.Prelude.{◌≡◌, ◌≤◌, ◌<◌, ◌^◌, true};
-ghost use Rattle.tlsf_map.specs.Layouts.{IsGrid};
 
 use crate::drawn_blocks::write_block;
 use crate::free_blocks::FreeBlocks;
@@ -55,7 +54,6 @@ impl Group {
 
     /// Whether the next block is drawn as one with this group.
     pub fn joins(self, grid: Grid, next: LabelledBlock) -> bool
-        requires { IsGrid grid }
         ensures { result ≡ true → self.words < 2 ^ 12 }
     {
         self.narrow && is_narrow(grid, next) && self.words * 64 < grid.row
@@ -80,10 +78,7 @@ impl Group {
     }
 
     /// The grid below the group in this one.
-    pub fn below(self, grid: Grid) -> Grid
-        requires { IsGrid grid }
-        ensures { IsGrid result }
-    {
+    pub fn below(self, grid: Grid) -> Grid {
         if self.count == 1 {
             grid.below_block(self.first)
         } else {
@@ -92,9 +87,7 @@ impl Group {
     }
 
     /// Adds the group to a picture of a heap, whose free blocks these tell apart.
-    pub fn write(self, text: &mut String, grid: Grid, free: FreeBlocks) -> Result<(), AllocError>
-        requires { IsGrid grid }
-    {
+    pub fn write(self, text: &mut String, grid: Grid, free: FreeBlocks) -> Result<(), AllocError> {
         if self.count == 1 {
             return write_block(text, grid, free, self.first);
         }

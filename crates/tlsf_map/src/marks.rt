@@ -1,6 +1,6 @@
 //! The characters that show a block.
 ghost use Rattle.std.specs.Prelude.{◌≤◌, ◌^◌, IfOk};
-ghost use Rattle.tlsf_map.specs.Layouts.{IsScale};
+ghost use Rattle.tlsf_map.specs.Layouts.{AreColumns, IsScale};
 
 use crate::columns::{columns, gap, space};
 use crate::fold::{Fold, used_words};
@@ -108,9 +108,7 @@ fn write_live_marks(
     first: u64,
     end: u64,
 ) -> Result<(), AllocError>
-    requires scale { IsScale scale }
-    requires first { first ≤ 2 ^ 35 }
-    requires end { end ≤ 2 ^ 35 }
+    requires { AreColumns scale first end }
 {
     let at = u64::from(drawn.block.at);
     let header = columns(scale, at + 3);
@@ -133,9 +131,7 @@ fn write_free_marks(
     first: u64,
     end: u64,
 ) -> Result<(), AllocError>
-    requires scale { IsScale scale }
-    requires first { first ≤ 2 ^ 35 }
-    requires end { end ≤ 2 ^ 35 }
+    requires { AreColumns scale first end }
 {
     let mark = if block.size == free.largest { "*" } else { "(" };
     let age = if free.shade(stamp) < 50 { "." } else { ":" };

@@ -1,6 +1,5 @@
 //! The picture as a whole: its style, a key to its colours, and the heaps, one below the other.
 ghost use Rattle.std.specs.Prelude.{◌≤◌, ◌^◌, [], ◌∷◌, length, OnOk, string_bytes};
-ghost use Rattle.tlsf_map.specs.Layouts.{IsGrid};
 ghost use Rattle.tlsf_map.specs.Told.{Adds, all_told, svg_told, title_of};
 ghost use Rattle.tlsf_map.specs.declared.page.TheConstants.{COLOURS};
 
@@ -30,9 +29,7 @@ fn write_groups(
     grid: Grid,
     free: FreeBlocks,
     blocks: &[LabelledBlock],
-) -> Result<u64, AllocError>
-    requires { IsGrid grid }
-{
+) -> Result<u64, AllocError> {
     if blocks.is_empty() {
         return Ok(0);
     }
@@ -55,9 +52,7 @@ fn write_groups(
 }
 
 // The text after the title of a heap: the words of a row, its numbers, and its blocks.
-fn rows_of(alloc: Global, grid: Grid, heap: &MappedHeap) -> Result<String, AllocError>
-    requires { IsGrid grid }
-{
+fn rows_of(alloc: Global, grid: Grid, heap: &MappedHeap) -> Result<String, AllocError> {
     let mut text = String::new(alloc);
     let row = grid.row;
     write!(

@@ -1,6 +1,6 @@
 //! Rectangles and lines of text. Lengths are in sixteenths of a pixel, so that each is a whole number.
 ghost use Rattle.std.specs.Prelude.{◌≤◌, ◌^◌};
-ghost use Rattle.tlsf_map.specs.Layouts.{IsGrid};
+ghost use Rattle.tlsf_map.specs.Layouts.{AreWords};
 
 use crate::fold::Fold;
 use crate::grid::Grid;
@@ -8,8 +8,7 @@ use std::alloc::AllocError;
 
 // Adds the place of the first word of a row, left of it.
 fn write_place(text: &mut String, grid: Grid, at: u64) -> Result<(), AllocError>
-    requires grid { IsGrid grid }
-    requires place { at ≤ 2 ^ 34 }
+    requires { at ≤ 2 ^ 34 }
 {
     let y = grid.top(at) + 328;
     write!(text, "<text class='place' x='-96' y='{y}'>{at}</text>")
@@ -23,7 +22,6 @@ fn write_piece(
     at: u64,
     words: u64,
 ) -> Result<(), AllocError>
-    requires grid { IsGrid grid }
     requires place { at ≤ 2 ^ 34 }
     requires few { words ≤ 2 ^ 34 }
 {
@@ -45,9 +43,7 @@ pub fn write_spread(
     at: u64,
     words: u64,
 ) -> Result<(), AllocError>
-    requires grid { IsGrid grid }
-    requires place { at ≤ 2 ^ 33 }
-    requires few { words ≤ 2 ^ 33 }
+    requires { AreWords at words }
 {
     let mut place = at;
     let mut left = words;
@@ -62,8 +58,7 @@ pub fn write_spread(
 
 // Adds the row that is drawn for all of some.
 fn write_fold(text: &mut String, grid: Grid, fold: Fold) -> Result<(), AllocError>
-    requires grid { IsGrid grid }
-    requires place { fold.at ≤ 2 ^ 33 }
+    requires { fold.at ≤ 2 ^ 33 }
 {
     write_place(text, grid, fold.at)?;
     let y = grid.top(fold.at);
@@ -84,7 +79,6 @@ pub fn write_rows(
     at: u64,
     words: u64,
 ) -> Result<(), AllocError>
-    requires grid { IsGrid grid }
     requires begins { fold.at ≤ 2 ^ 33 }
     requires ends { fold.end ≤ 2 ^ 33 }
     requires rows { fold.rows ≤ 2 ^ 33 }
@@ -131,9 +125,7 @@ pub fn write_caption(
     words: u64,
     caption: &Caption,
 ) -> Result<(), AllocError>
-    requires grid { IsGrid grid }
-    requires place { at ≤ 2 ^ 33 }
-    requires few { words ≤ 2 ^ 33 }
+    requires { AreWords at words }
 {
     let here = words.min(grid.row - at % grid.row);
     if grid.width(at, here) < 1280 {

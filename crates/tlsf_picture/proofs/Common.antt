@@ -18,7 +18,7 @@ pub use Rattle.tlsf_map.specs.Told.{Adds, all_told, moment_told, Moment, head_to
 pub use Rattle.tlsf_picture.specs.Drawn.{AreMaps, IsMap, IsMapBy, picture_told}
 pub use Rattle.tlsf_picture.specs.Labelled.{known_in, label_of, labelled, with_label}
 pub use Rattle.tlsf_picture.specs.Pages.{shown_until, IsNoted, is_shown, AreNoted, DrawsPage, IsMoment, is_among, lines_shown}
-pub use Rattle.tlsf_picture.specs.Steps.{HasShown, AddsMoment}
+pub use Rattle.tlsf_picture.specs.Steps.{LeavesHeap, ShowsSame, HasShown, AddsMoment}
 pub use Rattle.tlsf_picture.specs.declared.plots.point.Point.{Point}
 pub use Rattle.tlsf_picture.specs.plots.Curves.{worst_of, bucket, curve_of, stride_for}
 pub use Rattle.tlsf_picture.specs.plots.Plots.{heap_points, IsChart, AreCharts}

@@ -60,13 +60,7 @@ impl Puts for Drawing {
 }
 
 impl<const SLI: u32> Plays<SLI> for Drawing {
-    fn output(&self, alloc: Global, script: &Script) -> Result<String, AllocError>
-        requires level { IsLevel SLI }
-        requires header { IsHeaderInRange script.now.header }
-        requires lines { vec_len script.now.ends ≤ 32768 }
-        ensures { (trace : Trace) → level_in trace.header ≡ SLI → IsScript script.now trace
-            → IfOk result (λ text. DrawsAt self.now.form (line_in self.now.line trace) trace (string_bytes text)) }
-    {
+    fn output(&self, alloc: Global, script: &Script) -> Result<String, AllocError> {
         let line = line_in(script, self.line);
         picture_behind::<SLI>(alloc, script, self.form, line)
     }

@@ -1,10 +1,11 @@
 //! The parts of pictures of the heaps of workers.
 ghost use Rattle.std.specs.Prelude.{◌≡◌, ◌<◌, Option, map, IfOk};
-ghost use Rattle.tlsf_crew.specs.worker.Workers.{heap_of, SameButHeap};
-ghost use Rattle.tlsf_crew.specs.lanes.Yard.{IsYard, world_of};
+ghost use Rattle.tlsf_crew.specs.worker.Workers.{heap_of};
+ghost use Rattle.tlsf_crew.specs.lanes.Yard.{IsYard};
 ghost use Rattle.tlsf_heap.specs.Placed.{placed_blocks};
 ghost use Rattle.tlsf_picture.specs.Drawn.{AreMaps, IsMapBy};
 ghost use Rattle.tlsf_picture.specs.Labelled.{known_in, labelled};
+ghost use Rattle.tlsf_picture.specs.Steps.{LeavesHeap, ShowsSame};
 
 use crate::block_labels::BlockLabels;
 use std::alloc::{AllocError, Global};
@@ -18,8 +19,7 @@ fn blocks_of<const SLI: u32>(
     worker: &mut Worker<SLI>,
     labels: &BlockLabels,
 ) -> Result<Vec<LabelledBlock>, AllocError>
-    ensures heap { heap_of worker.new ≡ heap_of worker.old }
-    ensures same { SameButHeap worker.old worker.new }
+    ensures left { LeavesHeap worker.old worker.new }
     ensures blocks { IfOk result (λ blocks. blocks.items
         ≡ map (labelled (known_in labels.now)) (placed_blocks (heap_of worker.old).blocks)) }
 {
@@ -40,8 +40,7 @@ fn map_heap<const SLI: u32>(
     labels: &BlockLabels,
 ) -> Result<MappedHeap, AllocError>
     requires { (heap_of worker.old).id ≡ id }
-    ensures heap { heap_of worker.new ≡ heap_of worker.old }
-    ensures same { SameButHeap worker.old worker.new }
+    ensures left { LeavesHeap worker.old worker.new }
     ensures mapped { IfOk result (IsMapBy SLI (known_in labels.now) (heap_of worker.old)) }
 {
     let report = worker.report();
@@ -62,8 +61,7 @@ pub fn map_heaps<const SLI: u32>(
     labels: &[Option<u32>],
 ) -> Result<Vec<MappedHeap>, AllocError>
     requires { IsYard workers.old }
-    ensures yard { IsYard workers.new }
-    ensures world { world_of workers.new ≡ world_of workers.old }
+    ensures shows { ShowsSame workers.old workers.new }
     ensures maps { IfOk result (λ maps. AreMaps SLI made.now labels.now (map heap_of workers.old) maps.items) }
 {
     let mut maps = Vec::new(alloc);

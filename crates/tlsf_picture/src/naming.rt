@@ -1,11 +1,10 @@
 //! The lines that are named of each heap of a trace.
-ghost use Rattle.std.specs.Prelude.{◌≡◌, ◌<◌, ◌≤◌, vec_len, IfOk};
-ghost use Rattle.tlsf_class.specs.Classes.{IsLevel};
-ghost use Rattle.tlsf_lines.specs.Ranges.{IsHeaderInRange};
+ghost use Rattle.std.specs.Prelude.{◌≡◌, ◌<◌, IfOk};
 ghost use Rattle.tlsf_lines.specs.ScriptSoFar.{IsScript};
 ghost use Rattle.tlsf_lines.specs.Trace.{Trace};
 ghost use Rattle.tlsf_picture.specs.Pages.{AreNoted, IsNoted};
 ghost use Rattle.tlsf_trace.specs.Output.{level_in};
+ghost use Rattle.tlsf_picture.specs.Steps.{HasHeap, IsPlayable};
 
 use crate::plots::curve::{peak_of, worst_line};
 use crate::plots::points::{longest_of, points_of};
@@ -19,10 +18,7 @@ fn named_of<const SLI: u32>(
     script: &Script,
     heap: u32,
 ) -> Result<NamedLines, AllocError>
-    requires level { IsLevel SLI }
-    requires header { IsHeaderInRange script.now.header }
-    requires lines { vec_len script.now.ends ≤ 32768 }
-    requires heap { heap < script.now.header.workers }
+    requires { HasHeap SLI script.now heap }
     ensures { (trace : Trace) → level_in trace.header ≡ SLI → IsScript script.now trace → IfOk result (IsNoted trace heap) }
 {
     let points = points_of::<SLI>(alloc, script, heap)?;
@@ -41,9 +37,7 @@ pub fn named_lines<const SLI: u32>(
     alloc: Global,
     script: &Script,
 ) -> Result<Vec<NamedLines>, AllocError>
-    requires level { IsLevel SLI }
-    requires header { IsHeaderInRange script.now.header }
-    requires lines { vec_len script.now.ends ≤ 32768 }
+    requires { IsPlayable SLI script.now }
     ensures { (trace : Trace) → level_in trace.header ≡ SLI → IsScript script.now trace → IfOk result (λ named. AreNoted trace named.items) }
 {
     let mut named = Vec::new(alloc);

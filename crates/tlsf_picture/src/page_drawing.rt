@@ -1,8 +1,6 @@
 //! The page that shows the heaps of a trace at one moment at a time.
-ghost use Rattle.std.specs.Prelude.{◌≡◌, ℕ, ◌+◌, ◌<◌, ◌≤◌, length, vec_len, IfOk, OnOk, string_bytes, []};
-ghost use Rattle.tlsf_class.specs.Classes.{IsLevel};
+ghost use Rattle.std.specs.Prelude.{◌≡◌, ℕ, ◌+◌, ◌<◌, ◌≤◌, length, vec_len, OnOk, string_bytes, []};
 ghost use Rattle.tlsf_crew.specs.lanes.Yard.{IsYard};
-ghost use Rattle.tlsf_lines.specs.Ranges.{IsHeaderInRange};
 ghost use Rattle.tlsf_lines.specs.ScriptSoFar.{IsScript};
 ghost use Rattle.tlsf_lines.specs.Trace.{Trace};
 ghost use Rattle.tlsf_picture.specs.Pages as pages;
@@ -153,13 +151,7 @@ impl Puts for Page {
 }
 
 impl<const SLI: u32> Plays<SLI> for Page {
-    fn output(&self, alloc: Global, script: &Script) -> Result<String, AllocError>
-        requires level { IsLevel SLI }
-        requires header { IsHeaderInRange script.now.header }
-        requires lines { vec_len script.now.ends ≤ 32768 }
-        ensures { (trace : Trace) → level_in trace.header ≡ SLI → IsScript script.now trace
-            → IfOk result (λ text. DrawsPage trace (string_bytes text)) }
-    {
+    fn output(&self, alloc: Global, script: &Script) -> Result<String, AllocError> {
         let named = named_lines::<SLI>(alloc, script)?;
         let mut player = Player::<SLI>::open(alloc, script)?;
         let mut text = String::new(alloc);

@@ -16,3 +16,5 @@ pub mod Slots
 pub mod SourceTurns
 -- An end that is read from a slot is the one that stands there.
 pub mod StandingEnd
+-- Calls one after another make no more touches than all of them may, and take no memory.
+pub mod Works

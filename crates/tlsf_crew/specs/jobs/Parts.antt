@@ -1,5 +1,5 @@
 -- Facts that the parts of a race give one another. This serves the contracts and proofs of private functions alone.
-use Rattle.std.specs.Prelude.{◌≡◌, ℕ, ◌+◌, ◌<◌, List, [], ◌∷◌, length, slice_index, slice_get, Option, Some, vec_len, vec_capacity}
+use Rattle.std.specs.Prelude.{◌≡◌, ℕ, ◌+◌, ◌<◌, ◌^◌, All, List, [], ◌∷◌, length, slice_index, slice_get, Option, Some, vec_len, vec_capacity}
 use Rattle.std.specs.declared.vec.Vec.{Vec}
 use Rattle.std.specs.declared.alloc.Global.{Global}
 use Rattle.tlsf_heap.specs.declared.name.Name.{Name}
@@ -18,6 +18,11 @@ pub record IsPrepared {sli : ℕ} {P : Type 0} (by : ScriptPromise sli P) (relea
   pub ready : IsReady by job
   pub limits : by.limited job.worker.ports releases job.limits
   pub room : vec_capacity job.entries ≡ vec_len job.script + sum_of job.limits + 1
+
+-- a script for each of this number of workers, of fewer than 2^32 calls
+pub record AreScriptsFor (workers : ℕ) (scripts : Vec (Vec Call Global) Global) : Type 0 where
+  pub count : vec_len scripts ≡ workers
+  pub short : All (λ s. vec_len s < 2 ^ 32) scripts.items
 
 -- each job was done, in order
 abbrev pub AllDone : {J D : Type 0} → (J → D → Type 0) → List J → List D → Type 0

@@ -11,6 +11,11 @@ use Rattle.tlsf_crew.specs.lanes.LaneWorkers.{id_and_capacity, lane_extents}
 use Rattle.tlsf_crew.specs.lanes.Yard.{post_at, take_at, BothBeside}
 use Rattle.tlsf_crew.specs.lanes.Settle.{LaneSettled}
 
+-- two of this number of workers
+pub record AreTwo (count i j : ℕ) : Type 0 where
+  pub inside : (i < count) × (j < count)
+  pub apart : i ≢ j
+
 -- the lane from worker i, which is a, to worker j, which is b
 abbrev pub HasLane : {sli : ℕ} → ℕ → ℕ → Worker sli Lanes → Worker sli Lanes → Type 0
 HasLane i j a b =

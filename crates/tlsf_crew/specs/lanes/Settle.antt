@@ -1,10 +1,11 @@
 -- Facts that `settle` tells of the lanes of a yard.
-use Rattle.std.specs.Prelude.{◌≡◌, ◌≢◌, ℕ, ◌<◌, List, length, Some}
+use Rattle.std.specs.Prelude.{◌≡◌, ◌≢◌, ℕ, ◌<◌, List, length, map, Some}
 use Rattle.tlsf_post.specs.declared.post_end.PostEnd.{PostEnd}
 use Rattle.tlsf_post.specs.declared.take_end.TakeEnd.{TakeEnd}
 use Rattle.tlsf_crew.specs.declared.worker.worker.Worker.{Worker}
 use Rattle.tlsf_crew.specs.declared.worker.lanes.Lanes.{Lanes}
-use Rattle.tlsf_crew.specs.lanes.Yard.{post_at, take_at, BothBeside}
+use Rattle.tlsf_crew.specs.worker.Workers.{shown_of}
+use Rattle.tlsf_crew.specs.lanes.Yard.{post_at, take_at, world_of, BothBeside, IsYard}
 
 -- the two ends of the lane from i to j were side by side between the two yards
 pub record LaneSettled {sli : ℕ} (ws vs : List (Worker sli Lanes)) (i j : ℕ) : Type 0 where
@@ -21,3 +22,15 @@ pub record LaneSettled {sli : ℕ} (ws vs : List (Worker sli Lanes)) (i j : ℕ)
 -- the two ends of each lane between two workers were side by side between the two yards
 abbrev pub EachLaneSettled : {sli : ℕ} → List (Worker sli Lanes) → List (Worker sli Lanes) → Type 0
 EachLaneSettled ws vs = (i j : ℕ) → i < length ws → j < length ws → i ≢ j → LaneSettled ws vs i j
+
+-- a whole yard has a worker of this number
+pub record HasWorker {sli : ℕ} (ws : List (Worker sli Lanes)) (j : ℕ) : Type 0 where
+  pub yard : IsYard ws
+  pub inside : j < length ws
+
+-- the yard stays whole, with the same number of workers. It shows the same, and no word of a heap was read or written
+pub record KeepsWorld {sli : ℕ} (ws vs : List (Worker sli Lanes)) : Type 0 where
+  pub yard : IsYard vs
+  pub count : length vs ≡ length ws
+  pub world : world_of vs ≡ world_of ws
+  pub heaps : map shown_of vs ≡ map shown_of ws

@@ -19,6 +19,11 @@ abbrev pub ends_below : {sli : ℕ} → List (Worker sli Queues) → ℕ → ℕ
 ends_below ws j zero = []
 ends_below ws j (suc i) = ends_below ws j i ++ option_to_list (end_at ws i j)
 
+-- a whole yard has a worker of this number
+pub record HasQueueWorker {sli : ℕ} (ws : List (Worker sli Queues)) (j : ℕ) : Type 0 where
+  pub yard : IsQueueYard ws
+  pub inside : j < length ws
+
 -- worker a without an end to queue j
 pub record GaveUpEnd {sli : ℕ} (a v : Worker sli Queues) (j : ℕ) : Type 0 where
   pub posts : v.ports.posts.items ≡ slice_set a.ports.posts.items j None

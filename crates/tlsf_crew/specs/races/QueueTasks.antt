@@ -1,5 +1,5 @@
 -- Facts that the parts of a race over queues give one another. This serves the contracts and proofs of private functions alone.
-use Rattle.std.specs.Prelude.{◌≡◌, ℕ, ◌<◌, ◌≤◌, List, [], ◌∷◌, ◌++◌, length, Option, Some, None, slice_get, vec_len, vec_capacity}
+use Rattle.std.specs.Prelude.{All, ◌≡◌, ℕ, ◌<◌, ◌≤◌, List, [], ◌∷◌, ◌++◌, length, Option, Some, None, slice_get, vec_len, vec_capacity}
 use Rattle.std.specs.declared.vec.Vec.{Vec}
 use Rattle.std.specs.declared.alloc.Global.{Global}
 use mathlib.Core.List.{IsPrefix}
@@ -34,6 +34,11 @@ pub record QueueWorkerRan {sli : ℕ} (n : ℕ) (a : Worker sli Queues) (script 
 -- there is room for one entry more
 abbrev pub HasPlace : Vec Entry Global → Type 0
 HasPlace entries = vec_len entries < vec_capacity entries
+
+-- a record for each of this number of workers, which has room for one entry more
+pub record HavePlaces (workers : ℕ) (records : List (Vec Entry Global)) : Type 0 where
+  pub count : length records ≡ workers
+  pub places : All HasPlace records
 
 -- ---- all workers
 

@@ -7,7 +7,7 @@ use Rattle.tlsf_post.specs.declared.post.Post.{Post}
 use Rattle.tlsf_calls.specs.declared.call.Call.{Call}
 use Rattle.tlsf_calls.specs.declared.call.Call.TheVariants.{Take, Drain}
 use Rattle.tlsf_calls.specs.declared.crew_refusal.CrewRefusal.{CrewRefusal}
-use Rattle.tlsf_calls.specs.declared.crew_refusal.CrewRefusal.TheVariants.{Full, Stranger}
+use Rattle.tlsf_calls.specs.declared.crew_refusal.CrewRefusal.TheVariants.{Full}
 use Rattle.tlsf_calls.specs.declared.entry.Entry.{Entry}
 use Rattle.tlsf_calls.specs.declared.released.Released.{Released}
 use Rattle.tlsf_calls.specs.declared.released.Released.TheVariants.{Freed as WasFreed, Posted as WasPosted}
@@ -16,10 +16,11 @@ use Rattle.tlsf_calls.specs.declared.reply.Reply.TheVariants.{Freed, Posted, Ref
 use Rattle.tlsf_calls.specs.declared.took.Took.{Took}
 use Rattle.tlsf_crew.specs.declared.worker.worker.Worker.{Worker}
 use Rattle.tlsf_crew.specs.declared.scripts.journal.Journal.{Journal}
-use Rattle.tlsf_crew.specs.worker.Calls.{ReleasedHere, ReleasedThere, TakenFrom}
+use Rattle.tlsf_crew.specs.worker.Calls.{TakenFrom}
 use Rattle.tlsf_crew.specs.model.Sums.{sum_of}
 use Rattle.tlsf_crew.specs.histories.History.{IsNoPost}
 use Rattle.tlsf_crew.specs.scripts.Journals.{OneFewer}
+use Rattle.tlsf_crew.specs.model.OwnReplies.{HeapReply, IsHeapReply}
 use Rattle.tlsf_crew.specs.model.Progress.{Progress, AllTold, IsModelAnswer, untold}
 use Rattle.tlsf_crew.specs.worker.Workers.{heap_of, id_of, SameButHeap}
 use Rattle.tlsf_crew.specs.model.World.{made_by}
@@ -61,11 +62,10 @@ reply_released (Ok WasFreed) = Freed
 reply_released (Ok WasPosted) = Posted
 reply_released (Err why) = Refused why
 
--- what a release promises, over ports that reach some workers and by what a put may leave
-pub record ReleasedAnywhere {sli : ℕ} {P : Type 0} (reaches : P → ℕ → Type 0) (puts : ℕ → P → P → Name → Result (Unit {0}) CrewRefusal → Type 0) (a v : Worker sli P) (name : Name) (answer : Result Released CrewRefusal) : Type 0 where
-  pub here : name.heap ≡ id_of a → ReleasedHere a v name answer
-  pub there : name.heap ≢ id_of a → reaches a.ports name.heap → ReleasedThere puts a v name answer
-  pub nowhere : name.heap ≢ id_of a → ¬ (reaches a.ports name.heap) → (answer ≡ Err Stranger) × (v ≡ a)
+-- the own heap of worker a was called and left worker v, and the reply is that one
+pub record RepliesOwn {sli : ℕ} {P : Type 0} (a v : Worker sli P) (reply : Reply) (own : HeapReply) : Type 0 where
+  pub replied : IsHeapReply reply (heap_of v) own
+  pub same : SameButHeap a v
 
 -- neither a take nor a drain
 abbrev pub IsNoTake : Call → Type 0

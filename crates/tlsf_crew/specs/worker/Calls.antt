@@ -1,20 +1,23 @@
 -- The answers and effects of a worker's own calls.
-use Rattle.std.specs.Prelude.{◌≡◌, ℕ, List, [], ◌∷◌, Option, Some, None, Result, Ok, Err}
+use Rattle.std.specs.Prelude.{◌≡◌, ◌≢◌, ℕ, ◌+◌, ◌≤◌, List, [], ◌∷◌, Option, Some, None, Result, Ok, Err}
 use Rattle.tlsf_heap.specs.Blocks.{HeapState}
 use Rattle.tlsf_heap.specs.Calls.{released}
 use Rattle.tlsf_heap.specs.Effects.{Releases}
+use Rattle.tlsf_heap.specs.Footprint.{LeavesLive}
 use Rattle.tlsf_heap.specs.InPlace.{IsRefusedAsRead}
-use Rattle.tlsf_heap.specs.Touched.{release_touches}
+use Rattle.tlsf_heap.specs.Shown.{Seen}
+use Rattle.tlsf_heap.specs.Touched.{FollowsNoForgery, release_touches}
 use Rattle.tlsf_heap.specs.declared.name.Name.{Name}
 use Rattle.tlsf_heap.specs.declared.refusal.Refusal.{Refusal}
+use Rattle.tlsf_heap.specs.declared.refusal.Refusal.TheVariants.{Foreign}
 use Rattle.tlsf_post.specs.declared.post.Post.{Post}
 use Rattle.tlsf_calls.specs.declared.crew_refusal.CrewRefusal.{CrewRefusal}
-use Rattle.tlsf_calls.specs.declared.crew_refusal.CrewRefusal.TheVariants.{Heap, Full}
+use Rattle.tlsf_calls.specs.declared.crew_refusal.CrewRefusal.TheVariants.{Heap, Full, Stranger}
 use Rattle.tlsf_calls.specs.declared.released.Released.{Released}
 use Rattle.tlsf_calls.specs.declared.released.Released.TheVariants.{Freed, Posted}
 use Rattle.tlsf_calls.specs.declared.took.Took.{Took}
 use Rattle.tlsf_crew.specs.declared.worker.worker.Worker.{Worker}
-use Rattle.tlsf_crew.specs.worker.Workers.{heap_of, id_of, seen_of, SameButHeap, SameButPorts}
+use Rattle.tlsf_crew.specs.worker.Workers.{heap_of, id_of, seen_of, shown_of, SameButHeap, SameButPorts}
 
 -- the heap's answer as the worker's
 abbrev pub by_heap : {A : Type 0} → Result A Refusal → Result A CrewRefusal
@@ -24,6 +27,15 @@ by_heap (Err why) = Err (Heap why)
 -- a call with this name is refused as the heap refuses a read of no bytes of its payload
 abbrev pub IsRefusedByHeap : {R : Type 0} → HeapState → Name → Result R CrewRefusal → Type 0
 IsRefusedByHeap {R} h name answer = (by : Result R Refusal) × IsRefusedAsRead h name by × (answer ≡ by_heap by)
+
+-- a call hands out the payload of a name's block where it stands. It makes at most four touches of the heap's memory, none of a live
+-- block's payload, and follows no forged name
+pub record HandsOut {R : Type 0} (old new : Seen) (name : Name) (answer : Result R CrewRefusal) : Type 0 where
+  pub answer_is : IsRefusedByHeap old.heap name answer
+  pub touches : new.touches ≤ old.touches + 4
+  pub touches_rise : old.touches ≤ new.touches
+  pub leaves : LeavesLive old.heap.blocks old.touched new.touched
+  pub forged : FollowsNoForgery old new name
 
 abbrev pub freed_by : Result (Unit {0}) Refusal → Result Released CrewRefusal
 freed_by (Ok done) = Ok Freed
@@ -54,6 +66,19 @@ pub record ReleasedThere {sli : ℕ} {P : Type 0} (puts : ℕ → P → P → Na
   pub posted : Result (Unit {0}) CrewRefusal
   pub post : PostedThere puts a v name posted
   pub answer_is : answer ≡ posted_as posted
+
+-- a post of that name, unread: one of the own heap is refused as Foreign, and one of no other worker's heap as a Stranger
+pub record Posts {sli : ℕ} {P : Type 0} (reaches : P → ℕ → Type 0) (puts : ℕ → P → P → Name → Result (Unit {0}) CrewRefusal → Type 0) (a v : Worker sli P) (name : Name) (answer : Result (Unit {0}) CrewRefusal) : Type 0 where
+  pub own : name.heap ≡ id_of a → (answer ≡ Err (Heap Foreign)) × (v ≡ a)
+  pub there : name.heap ≢ id_of a → reaches a.ports name.heap → PostedThere puts a v name answer
+  pub nowhere : name.heap ≢ id_of a → ¬ (reaches a.ports name.heap) → (answer ≡ Err Stranger) × (v ≡ a)
+  pub heap : shown_of v ≡ shown_of a
+
+-- a release of that name, or a post where it is of another worker's heap
+pub record ReleasesOrPosts {sli : ℕ} {P : Type 0} (reaches : P → ℕ → Type 0) (puts : ℕ → P → P → Name → Result (Unit {0}) CrewRefusal → Type 0) (a v : Worker sli P) (name : Name) (answer : Result Released CrewRefusal) : Type 0 where
+  pub here : name.heap ≡ id_of a → ReleasedHere a v name answer
+  pub there : name.heap ≢ id_of a → reaches a.ports name.heap → ReleasedThere puts a v name answer
+  pub nowhere : name.heap ≢ id_of a → ¬ (reaches a.ports name.heap) → (answer ≡ Err Stranger) × (v ≡ a)
 
 -- ---- takes
 

@@ -1,5 +1,5 @@
 -- The heap that a drain leaves, and its counts.
-use Rattle.std.specs.Prelude.{◌≡◌, List, length, Bool, is_ok}
+use Rattle.std.specs.Prelude.{◌≡◌, ◌≤◌, ℕ, List, length, Bool, is_ok}
 use Rattle.std.specs.List.{fold, count_by}
 use Rattle.tlsf_heap.specs.Blocks.{HeapState}
 use Rattle.tlsf_heap.specs.Calls.{released}
@@ -15,3 +15,8 @@ heap_after h tooks = fold (λ g took. (released g took.name).heap) h tooks
 
 abbrev pub IsCountOf : Drained → List Took → Type 0
 IsCountOf answer tooks = (answer.taken ≡ length tooks) × (answer.freed ≡ count_by is_freed tooks)
+
+-- no more posts than the limit were taken, and no more blocks were released than posts were taken
+pub record AreFew (limit : ℕ) (answer : Drained) : Type 0 where
+  pub most : answer.taken ≤ limit
+  pub freed : answer.freed ≤ answer.taken

@@ -1,12 +1,14 @@
 -- The notes of a drain on the posts that it takes. This serves the contracts and proofs of private functions alone.
-use Rattle.std.specs.Prelude.{◌≡◌, ℕ, zero, suc, ◌-◌, ◌<◌, ◌⊎◌, List, [], ◌∷◌, ◌++◌, length, Option, Some, None}
+use Rattle.std.specs.Prelude.{◌≡◌, ℕ, zero, suc, ◌-◌, ◌*◌, ◌<◌, ◌⊎◌, List, [], ◌∷◌, ◌++◌, length, Option, Some, None}
 use Rattle.tlsf_calls.specs.declared.drained.Drained.{Drained}
 use Rattle.tlsf_calls.specs.declared.took.Took.{Took}
 use Rattle.tlsf_post.specs.declared.post.Post.{Post}
 use Rattle.tlsf_crew.specs.declared.worker.worker.Worker.{Worker}
-use Rattle.tlsf_crew.specs.worker.Workers.{id_of, SameButPorts}
+use Rattle.tlsf_words.specs.Memory.{Extent}
+use Rattle.tlsf_crew.specs.worker.Workers.{id_of, SameButPorts, WorksWithin}
 use Rattle.tlsf_crew.specs.worker.Calls.{TakenFrom}
-use Rattle.tlsf_crew.specs.worker.Drains.{IsCountOf}
+use Rattle.tlsf_crew.specs.worker.Drains.{AreFew, IsCountOf}
+use Rattle.tlsf_crew.specs.worker.Slices.{KeepsRoom}
 
 -- by what rules a drain takes posts over ports of some kind, and notes them
 pub record TakeRules (P N : Type 0) : Type 1 where
@@ -56,3 +58,9 @@ pub record AllNoted {sli : ℕ} {P N : Type 0} (by : TakeRules P N) (a v : Worke
   pub tooks : List Took
   pub each : EachNoted by a v x y most k tooks
   pub count : IsCountOf answer tooks
+
+-- a drain takes no more posts than the limit, makes at most 64 touches for each, and keeps the room for notes
+pub record DrainsWithin {sli : ℕ} {P N : Type 0} (extents : P → List Extent) (has_room : N → Type 0) (most : N → ℕ) (limit : ℕ) (a v : Worker sli P) (x y : N) (answer : Drained) : Type 0 where
+  pub few : AreFew limit answer
+  pub notes : KeepsRoom has_room most x y
+  pub within : WorksWithin extents (64 * answer.taken) a v

@@ -34,3 +34,8 @@ abbrev pub MayTake : {N : Type 0} → (N → ℕ → Type 0) → (N → ℕ → 
 MayTake {N} admitted noted x source zero = ⊤
 MayTake {N} admitted noted x source (suc n) =
     admitted x source × ((at : ℕ) (sender : Option ℕ) (took : Took) (z : N) → noted x at source sender took z → MayTake admitted noted z source n)
+
+-- the notes have room, of as many in all as before
+pub record KeepsRoom {N : Type 0} (has_room : N → Type 0) (most : N → ℕ) (x y : N) : Type 0 where
+  pub room : has_room y
+  pub kept : most y ≡ most x

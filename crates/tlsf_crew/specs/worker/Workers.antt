@@ -1,5 +1,5 @@
 -- The view of a worker: its heap and its number.
-use Rattle.std.specs.Prelude.{◌≡◌, ℕ, List, [], ◌∷◌, Option, Some, None, ◌<◌, ◌≢◌, vec_capacity}
+use Rattle.std.specs.Prelude.{◌≡◌, ℕ, ◌+◌, List, [], ◌∷◌, Option, Some, None, ◌<◌, ◌≤◌, ◌≢◌, vec_capacity}
 use Rattle.std.specs.Vec.{vec_ptr}
 use Rattle.std.specs.declared.vec.Vec.{Vec}
 use Rattle.std.specs.declared.alloc.Global.{Global}
@@ -42,6 +42,23 @@ SameButPorts a v = (id_of v ≡ id_of a) × (v.heap ≡ a.heap)
 -- its calls take no memory and give none back. The memory of its heap and that of its ports lie where they lay, and are as large
 abbrev pub Stays : {sli : ℕ} {P : Type 0} → (P → List Extent) → Worker sli P → Worker sli P → Type 0
 Stays extents a v = (v.heap.extents ≡ a.heap.extents) × (extents v.ports ≡ extents a.ports)
+
+-- a call of the own heap changes nothing else of the worker, which fits its yard as before, and takes no memory
+pub record LeavesRest {sli : ℕ} {P : Type 0} (fits : (level : ℕ) → Worker level P → Worker level P → Type 0) (extents : P → List Extent) (a v : Worker sli P) : Type 0 where
+  pub same : SameButHeap a v
+  pub yard : fits sli a v
+  pub stays : Stays extents a v
+
+-- a call makes at most this number of touches of the own heap's memory, and takes no memory
+pub record WorksWithin {sli : ℕ} {P : Type 0} (extents : P → List Extent) (most : ℕ) (a v : Worker sli P) : Type 0 where
+  pub touches : touches_of v ≤ touches_of a + most
+  pub touches_rise : touches_of a ≤ touches_of v
+  pub stays : Stays extents a v
+
+-- and the worker fits its yard as before
+pub record WorksInYard {sli : ℕ} {P : Type 0} (fits : Worker sli P → Worker sli P → Type 0) (extents : P → List Extent) (most : ℕ) (a v : Worker sli P) : Type 0 where
+  pub yard : fits a v
+  pub within : WorksWithin extents most a v
 
 -- the memory of a list
 abbrev pub extent_of : {X : Type 0} → Vec X Global → Extent

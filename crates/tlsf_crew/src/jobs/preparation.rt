@@ -4,7 +4,7 @@ ghost use Rattle.tlsf_crew.specs.model.Sums.{sum_of};
 ghost use Rattle.tlsf_crew.specs.scripts.EntryRoom.{releases_of};
 ghost use Rattle.tlsf_crew.specs.scripts.Scripts.{script_of};
 ghost use Rattle.tlsf_crew.specs.jobs.Job.{KnowsSome};
-ghost use Rattle.tlsf_crew.specs.jobs.Parts.{IsPrepared};
+ghost use Rattle.tlsf_crew.specs.jobs.Parts.{AreScriptsFor, IsPrepared};
 
 use crate::jobs::job::Job;
 use crate::scripts::scripted::Scripted;
@@ -81,8 +81,7 @@ pub(crate) fn prepare<const SLI: u32, R, P: Scripted<R> + Drop>(
     releases: &[u32; 8],
 ) -> Result<Vec<Job<SLI, P>>, NoMemory>
     requires yard { All (KnowsSome (P.promise SLI).knows) workers.items }
-    requires count { vec_len scripts ≡ vec_len workers }
-    requires short { All (λ s. vec_len s < 2 ^ 32) scripts.items }
+    requires scripts { AreScriptsFor (vec_len workers) scripts }
     ensures workers { IfOk result (λ jobs. map (λ j. j.worker) jobs.items ≡ workers.items) }
     ensures scripts { IfOk result (λ jobs. map (λ j. j.script) jobs.items ≡ scripts.items) }
     ensures ready { IfOk result (λ jobs. All (IsPrepared (P.promise SLI) releases.now) jobs.items) }

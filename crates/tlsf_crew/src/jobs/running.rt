@@ -1,7 +1,7 @@
 //! All jobs of a race, whatever the ports of its workers.
-ghost use Rattle.std.specs.Prelude.{◌≡◌, ◌^◌, ◌<◌, ◌≤◌, map, length, vec_len, IfOk, All};
+ghost use Rattle.std.specs.Prelude.{◌≤◌, map, length, vec_len, IfOk, All};
 ghost use Rattle.tlsf_crew.specs.jobs.Job.{KnowsSome};
-ghost use Rattle.tlsf_crew.specs.jobs.Parts.{EachJobRan};
+ghost use Rattle.tlsf_crew.specs.jobs.Parts.{AreScriptsFor, EachJobRan};
 
 use crate::jobs::fan_out::run_all;
 use crate::jobs::gate::Gate;
@@ -33,8 +33,7 @@ pub(crate) fn run_scripts<
 ) -> Result<Outcome<SLI, P>, NoMemory>
     requires yard { All (KnowsSome (P.promise SLI).knows) workers.items }
     requires few { length workers.items ≤ 8 }
-    requires count { vec_len scripts ≡ vec_len workers }
-    requires short { All (λ s. vec_len s < 2 ^ 32) scripts.items }
+    requires scripts { AreScriptsFor (vec_len workers) scripts }
     ensures run { IfOk result (λ o. EachJobRan (P.promise SLI) workers.items (map (λ s. s.items) scripts.items) o.records.items o.workers.items) }
 {
     let releases = count_all(&scripts);

@@ -1,11 +1,11 @@
 //! The calls of a worker over lanes.
-ghost use Rattle.std.specs.Prelude.{◌≡◌, ◌≢◌, ◌+◌, ◌*◌, ◌≤◌, length, Option, None, Some, Ok, Err};
+ghost use Rattle.std.specs.Prelude.{◌≡◌, ◌*◌, length, Option, None, Some, Ok, Err};
 ghost use Rattle.tlsf_calls.specs.declared.took.Took.{Took};
-ghost use Rattle.tlsf_heap.specs.declared.refusal.Refusal.TheVariants.{Foreign};
-ghost use Rattle.tlsf_crew.specs.worker.Workers.{heap_of, touches_of, id_of, Stays};
-ghost use Rattle.tlsf_crew.specs.lanes.LaneWorkers.{HasPost, HasTake, HearsLane, ReachesLane, TookThrough, lane_extents};
+ghost use Rattle.tlsf_crew.specs.worker.Workers.{WorksInYard};
+ghost use Rattle.tlsf_crew.specs.lanes.LaneWorkers.{HasTake, HearsLane, ReachesLane, TookThrough, lane_extents};
 ghost use Rattle.tlsf_crew.specs.lanes.LaneCalls.{KeepsYards, PutsIntoLane, TakenFromLane};
-ghost use Rattle.tlsf_crew.specs.worker.Calls.{PostedThere, ReleasedHere, ReleasedThere};
+ghost use Rattle.tlsf_crew.specs.worker.Calls.{Posts, ReleasesOrPosts};
+ghost use Rattle.tlsf_crew.specs.worker.Drains.{AreFew};
 ghost use Rattle.tlsf_crew.specs.lanes.LaneTurns.{DrainedAll};
 ghost use Rattle.tlsf_crew.specs.lanes.LaneNotes.{StopsAtLane};
 
@@ -86,46 +86,34 @@ impl<R> Exchange<R> for Lanes {
 impl<const SLI: u32> Worker<SLI> {
     /// Posts the name of another worker's block to its owner, unread.
     ///
-    /// - `own`: a name of the own heap is refused as `Foreign`, and nothing changes: see [`Worker::free`].
-    /// - `there`: a name of another worker's heap is put into the lane to it, or given back as `Full`. It comes only where that
-    ///   lane knows no free slot.
-    /// - `nowhere`: a name of no other worker is a `Stranger`, and nothing changes.
+    /// - `posts`: a name of the own heap is refused as `Foreign`, and nothing changes: see [`Worker::free`]. A name of another
+    ///   worker's heap is put into the lane to it, or given back as `Full`. It comes only where that lane knows no free slot.
+    ///   A name of no other worker is a `Stranger`, and nothing changes.
     ///
     /// ```
     /// workers[1].post(name)?; // worker 0, which allocated it, will take and release it
     /// ```
     pub fn post(&mut self, name: Name) -> Result<(), CrewRefusal>
-        ensures own { name.heap ≡ id_of self.old → (result ≡ Err (CrewRefusal.Heap Foreign)) × (self.new ≡ self.old) }
-        ensures there { name.heap ≢ id_of self.old → HasPost self.old name.heap → PostedThere PutsIntoLane self.old self.new name result }
-        ensures nowhere { name.heap ≢ id_of self.old → ¬ (HasPost self.old name.heap) → (result ≡ Err CrewRefusal.Stranger) × (self.new ≡ self.old) }
-        ensures heap { heap_of self.new ≡ heap_of self.old }
-        ensures yard { KeepsYards self.old self.new }
-        ensures touches { touches_of self.new ≡ touches_of self.old }
-        ensures stays { Stays lane_extents self.old self.new }
+        ensures posts { Posts ReachesLane PutsIntoLane self.old self.new name result }
+        ensures works { WorksInYard KeepsYards lane_extents 0 self.old self.new }
     {
         post(self, &NoRuntime, name)
     }
 
     /// Releases a block of the own heap, or posts the name of another worker's block to its owner, unread.
     ///
-    /// - `here`: a name of the own heap is answered as the heap answers it.
-    /// - `there`: a name of another worker's heap is put into the lane to it, or given back as `Full`. It comes only where that
-    ///   lane knows no free slot.
-    /// - `nowhere`: a name of no other worker is a `Stranger`, and nothing changes.
-    /// - `touches`: at most 64 touches of the own heap's memory.
+    /// - `releases`: a name of the own heap is answered as the heap answers it. A name of another worker's heap is put into the
+    ///   lane to it, or given back as `Full`. It comes only where that lane knows no free slot. A name of no other worker is a
+    ///   `Stranger`, and nothing changes.
+    /// - `works`: at most 64 touches of the own heap's memory.
     ///
     /// ```
     /// let here = workers[0].release(name);  // Ok(Released::Freed), where worker 0 allocated it
     /// let there = workers[1].release(name); // Ok(Released::Posted): worker 0 will take and release it
     /// ```
     pub fn release(&mut self, name: Name) -> Result<Released, CrewRefusal>
-        ensures here { name.heap ≡ id_of self.old → ReleasedHere self.old self.new name result }
-        ensures there { name.heap ≢ id_of self.old → HasPost self.old name.heap → ReleasedThere PutsIntoLane self.old self.new name result }
-        ensures nowhere { name.heap ≢ id_of self.old → ¬ (HasPost self.old name.heap) → (result ≡ Err CrewRefusal.Stranger) × (self.new ≡ self.old) }
-        ensures yard { KeepsYards self.old self.new }
-        ensures touches { touches_of self.new ≤ touches_of self.old + 64 }
-        ensures touches_rise { touches_of self.old ≤ touches_of self.new }
-        ensures stays { Stays lane_extents self.old self.new }
+        ensures releases { ReleasesOrPosts ReachesLane PutsIntoLane self.old self.new name result }
+        ensures works { WorksInYard KeepsYards lane_extents 64 self.old self.new }
     {
         release(self, &NoRuntime, name)
     }
@@ -135,7 +123,7 @@ impl<const SLI: u32> Worker<SLI> {
     ///
     /// - `lane`: where there is a lane from that worker, its end is asked for one post.
     /// - `nowhere`: where there is none, that worker is a `Stranger`, and nothing changes.
-    /// - `touches`: at most 64 touches of the own heap's memory.
+    /// - `works`: at most 64 touches of the own heap's memory.
     ///
     /// ```
     /// if let Some(took) = worker.take(1)? {
@@ -145,10 +133,7 @@ impl<const SLI: u32> Worker<SLI> {
     pub fn take(&mut self, from: u32) -> Result<Option<Took>, CrewRefusal>
         ensures lane { HasTake self.old from → (answer : Option Took) × TakenFromLane self.old self.new from answer × (result ≡ Ok answer) }
         ensures nowhere { ¬ (HasTake self.old from) → (result ≡ Err CrewRefusal.Stranger) × (self.new ≡ self.old) }
-        ensures yard { KeepsYards self.old self.new }
-        ensures touches { touches_of self.new ≤ touches_of self.old + 64 }
-        ensures touches_rise { touches_of self.old ≤ touches_of self.new }
-        ensures stays { Stays lane_extents self.old self.new }
+        ensures works { WorksInYard KeepsYards lane_extents 64 self.old self.new }
     {
         if !self.ports.has_source(from as usize) {
             return Err(CrewRefusal::Stranger);
@@ -162,8 +147,8 @@ impl<const SLI: u32> Worker<SLI> {
     ///
     /// - `drained`: the takes, each as [`Worker::take`] answers it, the heap that their releases leave, and their
     ///   count. A post is gone and counted as taken whatever the heap's answer; `freed` counts those answered by `Ok`.
-    /// - `most`: no more than `most` are taken.
-    /// - `touches`: at most 64 touches of the own heap's memory for each post that is taken.
+    /// - `few`: no more than `most` are taken.
+    /// - `works`: at most 64 touches of the own heap's memory for each post that is taken.
     ///
     /// ```
     /// let drained = worker.drain(64); // no more than 64 posts: a bound on the touches that it makes
@@ -171,12 +156,8 @@ impl<const SLI: u32> Worker<SLI> {
     /// ```
     pub fn drain(&mut self, most: u32) -> Drained
         ensures drained { DrainedAll self.old self.new most result }
-        ensures most { result.taken ≤ most }
-        ensures freed { result.freed ≤ result.taken }
-        ensures yard { KeepsYards self.old self.new }
-        ensures touches { touches_of self.new ≤ touches_of self.old + 64 * result.taken }
-        ensures touches_rise { touches_of self.old ≤ touches_of self.new }
-        ensures stays { Stays lane_extents self.old self.new }
+        ensures few { AreFew most result }
+        ensures works { WorksInYard KeepsYards lane_extents (64 * result.taken) self.old self.new }
     {
         drain_each(self, &NoRuntime, most, &mut NoNotes)
     }

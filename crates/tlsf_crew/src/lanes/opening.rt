@@ -1,9 +1,10 @@
-ghost use Rattle.std.specs.Prelude.{◌≡◌, ◌≢◌, ◌↔◌, ◌+◌, ◌<◌, Some, length, vec_len, slice_set, IfOk, OnOk, IsErrOf};
+ghost use Rattle.std.specs.Prelude.{◌≡◌, ◌+◌, ◌<◌, Some, length, vec_len, slice_set, IfOk, OnOk};
 ghost use Rattle.tlsf_class.specs.Classes.{IsLevel};
-ghost use Rattle.tlsf_crew.specs.worker.Sizes.{AreSizes};
+ghost use Rattle.tlsf_crew.specs.worker.Sizes.{AreSizes, RefusesSizes};
 ghost use Rattle.tlsf_crew.specs.model.Opening.{opened_world};
 ghost use Rattle.tlsf_crew.specs.lanes.LaneOpening.{KnowFree, AreFresh};
 ghost use Rattle.tlsf_crew.specs.lanes.Yard.{world_of, IsYard};
+ghost use Rattle.tlsf_crew.specs.lanes.LaneSteps.{AreTwo};
 ghost use Rattle.tlsf_crew.specs.lanes.NewLanes.{IsLaid};
 ghost use Rattle.tlsf_crew.specs.lanes.LaneWorkers.{id_and_capacity};
 
@@ -40,10 +41,7 @@ pub fn open_yard<const SLI: u32>(
     ensures free { IfOk result (λ workers. KnowFree workers.items capacity) }
     ensures fresh { IfOk result (λ workers. AreFresh workers.items) }
     ensures count { IfOk result (λ workers. vec_len workers ≡ n) }
-
-    // The refusals.
-    ensures bad_size { IsErrOf result OpenFault.BadSize ↔ ¬ (AreSizes SLI n words capacity) }
-    ensures never_worn { ¬ (IsErrOf result OpenFault.Worn) }
+    ensures refused { RefusesSizes SLI n words capacity result }
 {
     check_sizes::<SLI>(n, words, capacity)?;
     let Ok(mut workers) = open_alone(alloc, n, words, capacity) else {
@@ -111,8 +109,7 @@ fn lay_lane<const SLI: u32>(
     capacity: u32,
 ) -> Result<(), NoMemory>
     requires sizes { AreSizes SLI (length workers.old) words capacity }
-    requires inside { (i < length workers.old) × (j < length workers.old) }
-    requires apart { i ≢ j }
+    requires two { AreTwo (length workers.old) i j }
     requires laid { IsLaid workers.old (length workers.old) words capacity i j }
     ensures { OnOk result (IsLaid workers.new (length workers.old) words capacity i (j + 1)) }
 {

@@ -1,7 +1,7 @@
 // One lane, both ends in hand.
-ghost use Rattle.std.specs.Prelude.{◌≢◌, ◌<◌, length, Some};
+ghost use Rattle.std.specs.Prelude.{◌<◌, length, Some};
 ghost use Rattle.tlsf_crew.specs.lanes.Yard.{HasYardLane};
-ghost use Rattle.tlsf_crew.specs.lanes.LaneSteps.{HasLane, PairSettled, OnlyLaneSettled};
+ghost use Rattle.tlsf_crew.specs.lanes.LaneSteps.{AreTwo, HasLane, PairSettled, OnlyLaneSettled};
 
 use crate::worker::worker::Worker;
 use tlsf_post::{Post, beside};
@@ -27,8 +27,7 @@ fn settle_pair<const SLI: u32>(
 
 /// The lane from worker i to worker j.
 pub(crate) fn settle_lane<const SLI: u32>(workers: &mut [Worker<SLI>], i: usize, j: usize)
-    requires apart { i ≢ j }
-    requires inside { (i < length workers.old) × (j < length workers.old) }
+    requires two { AreTwo (length workers.old) i j }
     requires lane { HasYardLane workers.old i j }
     ensures { OnlyLaneSettled workers.old i j workers.new }
 {

@@ -1,8 +1,7 @@
-ghost use Rattle.std.specs.Prelude.{◌≡◌, ◌<◌, length, map};
-ghost use Rattle.tlsf_crew.specs.lanes.Yard.{IsYard, world_of};
-ghost use Rattle.tlsf_crew.specs.worker.Workers.{shown_of};
+ghost use Rattle.std.specs.Prelude.{◌≡◌, length, map};
+ghost use Rattle.tlsf_crew.specs.lanes.Yard.{IsYard};
 ghost use Rattle.tlsf_crew.specs.lanes.LaneWorkers.{lane_memory};
-ghost use Rattle.tlsf_crew.specs.lanes.Settle.{EachLaneSettled};
+ghost use Rattle.tlsf_crew.specs.lanes.Settle.{EachLaneSettled, HasWorker, KeepsWorld};
 ghost use Rattle.tlsf_crew.specs.lanes.LaneSteps.{ColumnSettled};
 
 use crate::lanes::pairs::settle_lane;
@@ -13,8 +12,8 @@ use crate::worker::worker::Worker;
 ///
 /// - `settled`: for each lane, the posts that were taken and then those that wait are those that had waited and then those
 ///   that were sent. No post is lost, doubled or overtaken.
-/// - `world`: what the yard shows stays the same. No heap changes, and in each lane the same posts wait.
-/// - `heaps`: no word of a heap is read or written, and so no payload.
+/// - `keeps`: what the yard shows stays the same. No heap changes, and in each lane the same posts wait. No word of a heap is read or
+///   written, and so no payload.
 /// - `stays`: it takes no memory, so each worker's heap, lists of ends and lanes stay where they lie.
 ///
 /// ```
@@ -25,10 +24,7 @@ use crate::worker::worker::Worker;
 pub fn settle<const SLI: u32>(workers: &mut [Worker<SLI>])
     requires { IsYard workers.old }
     ensures settled { EachLaneSettled workers.old workers.new }
-    ensures yard { IsYard workers.new }
-    ensures count { length workers.new ≡ length workers.old }
-    ensures world { world_of workers.new ≡ world_of workers.old }
-    ensures heaps { map shown_of workers.new ≡ map shown_of workers.old }
+    ensures keeps { KeepsWorld workers.old workers.new }
     ensures stays { map lane_memory workers.new ≡ map lane_memory workers.old }
 {
     for j in 0..workers.len() {
@@ -38,13 +34,9 @@ pub fn settle<const SLI: u32>(workers: &mut [Worker<SLI>])
 
 /// Settles the lanes to one worker.
 pub(crate) fn settle_column<const SLI: u32>(workers: &mut [Worker<SLI>], j: usize)
-    requires yard { IsYard workers.old }
-    requires inside { j < length workers.old }
+    requires { HasWorker workers.old j }
     ensures settled { ColumnSettled workers.old workers.new (length workers.old) j }
-    ensures yard { IsYard workers.new }
-    ensures count { length workers.new ≡ length workers.old }
-    ensures world { world_of workers.new ≡ world_of workers.old }
-    ensures heaps { map shown_of workers.new ≡ map shown_of workers.old }
+    ensures keeps { KeepsWorld workers.old workers.new }
     ensures stays { map lane_memory workers.new ≡ map lane_memory workers.old }
 {
     for i in 0..workers.len() {

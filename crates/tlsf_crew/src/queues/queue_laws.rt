@@ -21,6 +21,6 @@ pub fn queues_join_the_yard()
     // Its ends.
     ensures to { (sli : ℕ) (ws : List (Worker sli Queues)) (i j : ℕ) (a : Worker sli Queues) → IsQueueYard ws → slice_get ws i ≡ Some a → (HasQueueEnd a j ↔ IsOther (length ws) i j) }
 
-    // Each call's clause `yard` says enough of a worker to keep the yard whole.
+    // Each call's clauses `rest` and `works` say enough of a worker to keep the yard whole.
     ensures kept { (sli : ℕ) (ws : List (Worker sli Queues)) (i : ℕ) (a v : Worker sli Queues) → IsQueueYard ws → slice_get ws i ≡ Some a → KeepsQueueYards a v → IsQueueYard (slice_set ws i v) }
 {}

@@ -1,8 +1,8 @@
 //! How a yard over queues is opened.
-ghost use Rattle.std.specs.Prelude.{◌≡◌, ◌↔◌, ℕ, ◌<◌, ◌≤◌, Some, length, map, vec_len, vec_capacity, slice_set, IfOk, IsErrOf};
+ghost use Rattle.std.specs.Prelude.{◌≡◌, ℕ, ◌<◌, ◌≤◌, Some, length, map, vec_len, vec_capacity, slice_set, IfOk};
 ghost use Rattle.tlsf_class.specs.Classes.{IsLevel};
 ghost use Rattle.tlsf_post.specs.Mailboxes.{number_of, below_but};
-ghost use Rattle.tlsf_crew.specs.worker.Sizes.{AreSizes};
+ghost use Rattle.tlsf_crew.specs.worker.Sizes.{AreSizes, RefusesSizes};
 ghost use Rattle.tlsf_crew.specs.model.Opening.{opened_world};
 ghost use Rattle.tlsf_crew.specs.queues.QueueYard.{IsQueueYard, queue_world_of};
 ghost use Rattle.tlsf_crew.specs.queues.QueueOpening.{AreFreshQueues, AreGiven, AreUngiven, GaveEnds, HaveSlotsFor};
@@ -38,10 +38,7 @@ pub fn open_queue_yard<const SLI: u32>(
     ensures world { IfOk result (λ workers. queue_world_of workers.items ≡ opened_world n words capacity) }
     ensures fresh { IfOk result (λ workers. AreFreshQueues workers.items) }
     ensures count { IfOk result (λ workers. vec_len workers ≡ n) }
-
-    // The refusals.
-    ensures bad_size { IsErrOf result OpenFault.BadSize ↔ ¬ (AreSizes SLI n words capacity) }
-    ensures never_worn { ¬ (IsErrOf result OpenFault.Worn) }
+    ensures refused { RefusesSizes SLI n words capacity result }
 {
     check_sizes::<SLI>(n, words, capacity)?;
     match open_without_ends(alloc, n, words, capacity) {

@@ -4,7 +4,7 @@ ghost use Rattle.std.specs.Option.{option_to_list};
 ghost use Rattle.tlsf_post.specs.Mailboxes.{IsWhole, AllBeside};
 ghost use Rattle.tlsf_crew.specs.queues.QueueWorkers.{queue_end_to};
 ghost use Rattle.tlsf_crew.specs.queues.QueueYard.{IsQueueYard, queue_world_of};
-ghost use Rattle.tlsf_crew.specs.queues.QueueSettle.{AllKnown, GaveUpEnd, Gathered, QueueSettled, EachQueueSettled, StaysPut};
+ghost use Rattle.tlsf_crew.specs.queues.QueueSettle.{AllKnown, GaveUpEnd, Gathered, HasQueueWorker, QueueSettled, EachQueueSettled, StaysPut};
 ghost use Rattle.tlsf_crew.specs.declared.worker.worker.Worker.{Worker};
 ghost use Rattle.tlsf_crew.specs.declared.queues.queues.Queues.{Queues};
 
@@ -42,8 +42,7 @@ fn gather_all<const SLI: u32>(
     j: usize,
     posters: &mut Vec<PosterEnd>,
 )
-    requires yard { IsQueueYard workers.old }
-    requires inside { j < length workers.old }
+    requires has { HasQueueWorker workers.old j }
     requires room { (posters.old.items ≡ []) × (length workers.old ≤ vec_capacity posters.old) }
     ensures gathered { Gathered workers.old j (length workers.old) workers.new posters.new.items }
     ensures capacity { vec_capacity posters.new ≡ vec_capacity posters.old }
@@ -71,8 +70,7 @@ fn settle_one_queue<const SLI: u32>(
     j: usize,
     posters: &mut Vec<PosterEnd>,
 )
-    requires yard { IsQueueYard workers.old }
-    requires inside { j < length workers.old }
+    requires has { HasQueueWorker workers.old j }
     requires room { length workers.old ≤ vec_capacity posters.old }
     ensures settled { QueueSettled workers.old j workers.new }
     ensures capacity { vec_capacity posters.new ≡ vec_capacity posters.old }

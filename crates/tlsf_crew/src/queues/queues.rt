@@ -1,9 +1,9 @@
 //! The queues of a worker, and what it does over them.
-ghost use Rattle.std.specs.Prelude.{◌≡◌, ◌≢◌, ◌+◌, ◌*◌, ◌≤◌, ⊤, Some, Err};
-ghost use Rattle.tlsf_heap.specs.declared.refusal.Refusal.TheVariants.{Foreign};
-ghost use Rattle.tlsf_crew.specs.worker.Workers.{heap_of, touches_of, id_of, Stays};
-ghost use Rattle.tlsf_crew.specs.worker.Calls.{PostedThere, ReleasedHere, ReleasedThere};
-ghost use Rattle.tlsf_crew.specs.queues.QueueWorkers.{HasQueueEnd, KeepsQueueYards, ReachesQueue, PutsIntoQueue, AsksQueue, queue_extents};
+ghost use Rattle.std.specs.Prelude.{◌+◌, ◌*◌, ⊤, Some};
+ghost use Rattle.tlsf_crew.specs.worker.Workers.{WorksInYard};
+ghost use Rattle.tlsf_crew.specs.worker.Calls.{Posts, ReleasesOrPosts};
+ghost use Rattle.tlsf_crew.specs.worker.Drains.{AreFew};
+ghost use Rattle.tlsf_crew.specs.queues.QueueWorkers.{KeepsQueueYards, ReachesQueue, PutsIntoQueue, AsksQueue, queue_extents};
 ghost use Rattle.tlsf_crew.specs.queues.QueueCalls.{TakenFromQueue, DrainedQueue};
 ghost use Rattle.tlsf_crew.specs.queues.QueueNotes.{StopsAtQueue};
 
@@ -102,22 +102,16 @@ impl<const SLI: u32> QueueWorker<SLI> {
     /// Posts the name of another worker's block into the queue of its owner, unread. It may spin while a post is half put
     /// or taken by another thread, and so needs `Wait`.
     ///
-    /// - `own`: a name of the own heap is refused as `Foreign`, and nothing changes: see [`QueueWorker::free`].
-    /// - `there`: a name of another worker's heap is put into its queue, where no more posts wait then than it holds. Or it is
-    ///   given back as `Full`, where at one moment of the call the queue held its capacity.
-    /// - `nowhere`: a name of no worker is a `Stranger`, and nothing changes.
+    /// - `posts`: a name of the own heap is refused as `Foreign`, and nothing changes: see [`QueueWorker::free`]. A name of another
+    ///   worker's heap is put into its queue, where no more posts wait then than it holds. Or it is given back as `Full`, where at
+    ///   one moment of the call the queue held its capacity. A name of no worker is a `Stranger`, and nothing changes.
     ///
     /// ```
     /// workers[1].post(rt, name)?; // worker 0, which allocated it, will take and release it
     /// ```
     pub fn post<R: Wait>(&mut self, rt: &R, name: Name) -> Result<(), CrewRefusal>
-        ensures own { name.heap ≡ id_of self.old → (result ≡ Err (CrewRefusal.Heap Foreign)) × (self.new ≡ self.old) }
-        ensures there { name.heap ≢ id_of self.old → HasQueueEnd self.old name.heap → PostedThere PutsIntoQueue self.old self.new name result }
-        ensures nowhere { name.heap ≢ id_of self.old → ¬ (HasQueueEnd self.old name.heap) → (result ≡ Err CrewRefusal.Stranger) × (self.new ≡ self.old) }
-        ensures heap { heap_of self.new ≡ heap_of self.old }
-        ensures yard { KeepsQueueYards self.old self.new }
-        ensures touches { touches_of self.new ≡ touches_of self.old }
-        ensures stays { Stays queue_extents self.old self.new }
+        ensures posts { Posts ReachesQueue PutsIntoQueue self.old self.new name result }
+        ensures works { WorksInYard KeepsQueueYards queue_extents 0 self.old self.new }
     {
         post(self, rt, name)
     }
@@ -126,23 +120,17 @@ impl<const SLI: u32> QueueWorker<SLI> {
     /// [`crate::Worker::release`]; where the name is known to be the own one or another's, [`QueueWorker::free`] or
     /// [`QueueWorker::post`] says which. It may spin as [`QueueWorker::post`] does.
     ///
-    /// - `here`: a name of the own heap is answered as the heap answers it.
-    /// - `there`: a name of another worker's heap is posted.
-    /// - `nowhere`: a name of no worker is a `Stranger`, and nothing changes.
-    /// - `touches`: at most 64 touches of the own heap's memory.
+    /// - `releases`: a name of the own heap is answered as the heap answers it. A name of another worker's heap is posted. A name
+    ///   of no worker is a `Stranger`, and nothing changes.
+    /// - `works`: at most 64 touches of the own heap's memory.
     ///
     /// ```
     /// let here = workers[0].release(rt, name);  // Ok(Released::Freed), where worker 0 allocated it
     /// let there = workers[1].release(rt, name); // Ok(Released::Posted): worker 0 will take and release it
     /// ```
     pub fn release<R: Wait>(&mut self, rt: &R, name: Name) -> Result<Released, CrewRefusal>
-        ensures here { name.heap ≡ id_of self.old → ReleasedHere self.old self.new name result }
-        ensures there { name.heap ≢ id_of self.old → HasQueueEnd self.old name.heap → ReleasedThere PutsIntoQueue self.old self.new name result }
-        ensures nowhere { name.heap ≢ id_of self.old → ¬ (HasQueueEnd self.old name.heap) → (result ≡ Err CrewRefusal.Stranger) × (self.new ≡ self.old) }
-        ensures yard { KeepsQueueYards self.old self.new }
-        ensures touches { touches_of self.new ≤ touches_of self.old + 64 }
-        ensures touches_rise { touches_of self.old ≤ touches_of self.new }
-        ensures stays { Stays queue_extents self.old self.new }
+        ensures releases { ReleasesOrPosts ReachesQueue PutsIntoQueue self.old self.new name result }
+        ensures works { WorksInYard KeepsQueueYards queue_extents 64 self.old self.new }
     {
         release(self, rt, name)
     }
@@ -152,7 +140,7 @@ impl<const SLI: u32> QueueWorker<SLI> {
     /// while a post is half put by another thread, and so needs `Wait`.
     ///
     /// - `taken`: the own queue is asked for one post. Where it answers one, no more waited than the queue holds.
-    /// - `touches`: at most 64 touches of the own heap's memory.
+    /// - `works`: at most 64 touches of the own heap's memory.
     ///
     /// ```
     /// if let Some(took) = worker.take(rt) {
@@ -161,10 +149,7 @@ impl<const SLI: u32> QueueWorker<SLI> {
     /// ```
     pub fn take<R: Wait>(&mut self, rt: &R) -> Option<Took>
         ensures taken { TakenFromQueue self.old self.new result }
-        ensures yard { KeepsQueueYards self.old self.new }
-        ensures touches { touches_of self.new ≤ touches_of self.old + 64 }
-        ensures touches_rise { touches_of self.old ≤ touches_of self.new }
-        ensures stays { Stays queue_extents self.old self.new }
+        ensures works { WorksInYard KeepsQueueYards queue_extents 64 self.old self.new }
     {
         take_next(self, rt, 0)
     }
@@ -174,20 +159,16 @@ impl<const SLI: u32> QueueWorker<SLI> {
     ///
     /// - `drained`: the takes, each as [`QueueWorker::take`] answers it, the heap that their releases leave, and their
     ///   count. A post is gone and counted as taken whatever the heap's answer; `freed` counts those answered by `Ok`.
-    /// - `most`: no more than `most` are taken.
-    /// - `touches`: at most 64 touches of the own heap's memory for each post that is taken.
+    /// - `few`: no more than `most` are taken.
+    /// - `works`: at most 64 touches of the own heap's memory for each post that is taken.
     ///
     /// ```
     /// let drained = worker.drain(rt, 64); // no more than 64 posts: a bound on the touches that it makes
     /// ```
     pub fn drain<R: Wait>(&mut self, rt: &R, most: u32) -> Drained
         ensures drained { DrainedQueue self.old self.new most result }
-        ensures most { result.taken ≤ most }
-        ensures freed { result.freed ≤ result.taken }
-        ensures yard { KeepsQueueYards self.old self.new }
-        ensures touches { touches_of self.new ≤ touches_of self.old + 64 * result.taken }
-        ensures touches_rise { touches_of self.old ≤ touches_of self.new }
-        ensures stays { Stays queue_extents self.old self.new }
+        ensures few { AreFew most result }
+        ensures works { WorksInYard KeepsQueueYards queue_extents (64 * result.taken) self.old self.new }
     {
         drain_source(self, rt, 0, most, &mut [NO_POST; AT_ONCE], &mut NoNotes)
     }

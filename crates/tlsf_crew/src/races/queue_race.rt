@@ -1,11 +1,12 @@
 //! Workers over queues that run their scripts at once.
-ghost use Rattle.std.specs.Prelude.{◌≡◌, ℕ, ◌^◌, ◌<◌, ◌≤◌, length, map, vec_len, vec_capacity, IfOk, All};
+ghost use Rattle.std.specs.Prelude.{◌≡◌, ℕ, ◌<◌, ◌≤◌, length, map, vec_len, vec_capacity, IfOk, All};
 ghost use Rattle.tlsf_crew.specs.queues.QueueYard.{IsQueueYard, queue_world_of};
 ghost use Rattle.tlsf_crew.specs.races.QueueRace.{IsQueueRace};
 ghost use Rattle.tlsf_crew.specs.queues.QueueWorkers.{KnowsQueueYard};
 ghost use Rattle.tlsf_crew.specs.races.LaneTasks.{KeepRooms};
+ghost use Rattle.tlsf_crew.specs.jobs.Parts.{AreScriptsFor};
 ghost use Rattle.tlsf_crew.specs.races.Rooms.{HaveQueueRecordRooms};
-ghost use Rattle.tlsf_crew.specs.races.QueueTasks.{QueueLastDrained, SettledAndDrained, HasPlace, KnowsSomeYard, EachQueueLastDrained};
+ghost use Rattle.tlsf_crew.specs.races.QueueTasks.{QueueLastDrained, SettledAndDrained, HasPlace, HavePlaces, KnowsSomeYard, EachQueueLastDrained};
 
 use crate::jobs::gate::Gate;
 use crate::jobs::outcome::QueueOutcome;
@@ -52,8 +53,7 @@ pub fn race_queues<const SLI: u32, R: Threads + Wait + Sync, G: Gate>(
     gate: &G,
 ) -> Result<QueueOutcome<SLI>, NoMemory>
     requires yard { IsQueueYard workers.items }
-    requires count { vec_len scripts ≡ vec_len workers }
-    requires short { All (λ s. vec_len s < 2 ^ 32) scripts.items }
+    requires scripts { AreScriptsFor (vec_len workers) scripts }
     ensures race { IfOk result (λ o. IsQueueRace (queue_world_of workers.entry.items) (map (λ s. s.items) scripts.items)
         (map (λ r. r.items) o.records.items) (queue_world_of o.workers.items)) }
     ensures yard { IfOk result (λ o. IsQueueYard o.workers.items) }
@@ -82,8 +82,7 @@ fn finish<const SLI: u32, R: Wait>(
     posters: &mut Vec<PosterEnd>,
 )
     requires yard { IsQueueYard workers.old }
-    requires count { length records.old ≡ length workers.old }
-    requires places { All HasPlace records.old }
+    requires records { HavePlaces (length workers.old) records.old }
     requires room { length workers.old ≤ vec_capacity posters.old }
     ensures rooms { KeepRooms records.old records.new }
     ensures finished { SettledAndDrained workers.old (map (λ r. r.items) records.old) (map (λ r. r.items) records.new) workers.new }
@@ -101,8 +100,7 @@ fn drain_all<const SLI: u32, R: Wait>(
     records: &mut [Vec<Entry>],
 )
     requires yard { All KnowsSomeYard workers.old }
-    requires count { length records.old ≡ length workers.old }
-    requires places { All HasPlace records.old }
+    requires records { HavePlaces (length workers.old) records.old }
     ensures rooms { KeepRooms records.old records.new }
     ensures drained { EachQueueLastDrained workers.old (map (λ r. r.items) records.old) (map (λ r. r.items) records.new) workers.new (length workers.old) }
 {

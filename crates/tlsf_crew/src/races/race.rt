@@ -1,11 +1,13 @@
 //! Workers that run their scripts at once.
-ghost use Rattle.std.specs.Prelude.{◌≡◌, ℕ, ◌+◌, ◌^◌, ◌<◌, List, [], ◌∷◌, ◌++◌, length, map, Option, None, vec_len, vec_capacity, IfOk, All};
+ghost use Rattle.std.specs.Prelude.{◌≡◌, ℕ, ◌+◌, ◌<◌, List, [], ◌∷◌, ◌++◌, length, map, Option, None, vec_len, vec_capacity, IfOk};
 ghost use Rattle.tlsf_heap.specs.declared.name.Name.{Name};
 ghost use Rattle.tlsf_crew.specs.lanes.Yard.{IsYard, world_of};
+ghost use Rattle.tlsf_crew.specs.lanes.Settle.{HasWorker};
 ghost use Rattle.tlsf_crew.specs.model.World.{called};
 ghost use Rattle.tlsf_crew.specs.replays.ReplaySteps.{replay_of};
 ghost use Rattle.tlsf_crew.specs.scripts.Scripts.{last_call};
 ghost use Rattle.tlsf_crew.specs.races.Race.{IsRace};
+ghost use Rattle.tlsf_crew.specs.jobs.Parts.{AreScriptsFor};
 ghost use Rattle.tlsf_crew.specs.races.Rooms.{HaveRecordRooms};
 ghost use Rattle.tlsf_crew.specs.races.LaneTasks.{KeepRooms, HasFew, HasLastRoom, EachHasLastRoom, EachLastDrained};
 
@@ -54,8 +56,7 @@ pub fn race<const SLI: u32, R: Threads + Wait + Sync, G: Gate>(
     gate: &G,
 ) -> Result<Outcome<SLI>, NoMemory>
     requires yard { IsYard workers.items }
-    requires count { vec_len scripts ≡ vec_len workers }
-    requires short { All (λ s. vec_len s < 2 ^ 32) scripts.items }
+    requires scripts { AreScriptsFor (vec_len workers) scripts }
     ensures race { IfOk result (λ o. IsRace (world_of workers.entry.items) (map (λ s. s.items) scripts.items)
         (map (λ r. r.items) o.records.items) (world_of o.workers.items)) }
     ensures yard { IfOk result (λ o. IsYard o.workers.items) }
@@ -90,8 +91,7 @@ fn drain_one<const SLI: u32>(
     at: u32,
     entries: &mut Vec<Entry>,
 )
-    requires yard { IsYard workers.old }
-    requires inside { at < length workers.old }
+    requires has { HasWorker workers.old at }
     requires few { HasFew workers.old at }
     requires room { HasLastRoom workers.old at entries.old }
     ensures yard { IsYard workers.new }

@@ -1,14 +1,13 @@
 //! Events, one after another.
-ghost use Rattle.std.specs.Prelude.{◌≡◌, ◌≢◌, ℕ, ◌+◌, ◌<◌, ◌≤◌, All, length, map, List, Option, Some, vec_len, vec_capacity, IfOk, OnOk, OnErr};
+ghost use Rattle.std.specs.Prelude.{◌≡◌, ◌≢◌, ℕ, ◌+◌, ◌<◌, ◌≤◌, All, length, List, Option, Some, vec_len, vec_capacity, IfOk, OnOk, OnErr};
 ghost use Rattle.tlsf_heap.specs.declared.name.Name.{Name};
 ghost use Rattle.tlsf_crew.specs.model.Sums.{sum_below};
 ghost use Rattle.tlsf_crew.specs.scripts.EntryRoom.{entry_room};
 ghost use Rattle.tlsf_crew.specs.lanes.Yard.{IsYard, shown_in, waits_in, world_of};
-ghost use Rattle.tlsf_crew.specs.worker.Workers.{shown_of};
 ghost use Rattle.tlsf_crew.specs.model.World.{after, replies, replies_behind};
 ghost use Rattle.tlsf_crew.specs.model.Targets.{target_name};
 ghost use Rattle.tlsf_crew.specs.fair_runs.FairRuns.{IsFairRun, NoneStale, WaitLive};
-ghost use Rattle.tlsf_crew.specs.lanes.Settle.{LaneSettled};
+ghost use Rattle.tlsf_crew.specs.lanes.Settle.{HasWorker, KeepsWorld, LaneSettled};
 ghost use Rattle.tlsf_crew.specs.replays.ReplaySteps.{replay_of, Concerns, AreLimits, IsReplied};
 
 use crate::lanes::pairs::settle_lane;
@@ -28,13 +27,9 @@ use tlsf_post::NoMemory;
 
 /// Settles the lane from a worker to that of a name's heap, where there is one.
 fn settle_named<const SLI: u32>(workers: &mut [Worker<SLI>], at: usize, name: Option<Name>)
-    requires yard { IsYard workers.old }
-    requires inside { at < length workers.old }
+    requires { HasWorker workers.old at }
     ensures settled { (k : Name) → name ≡ Some k → k.heap < length workers.old → at ≢ k.heap → LaneSettled workers.old workers.new at k.heap }
-    ensures yard { IsYard workers.new }
-    ensures count { length workers.new ≡ length workers.old }
-    ensures world { world_of workers.new ≡ world_of workers.old }
-    ensures heaps { map shown_of workers.new ≡ map shown_of workers.old }
+    ensures keeps { KeepsWorld workers.old workers.new }
 {
     let Some(name) = name else {
         return;
@@ -53,14 +48,10 @@ fn settle_for<const SLI: u32>(
     event: &Event,
     name: Option<Name>,
 ) -> [u64; 8]
-    requires yard { IsYard workers.old }
-    requires inside { event.now.worker < length workers.old }
+    requires { HasWorker workers.old event.now.worker }
     ensures settled { (made : List (Option Name)) → target_name made event.now.call ≡ name → (i j : ℕ) → i < length workers.old → j < length workers.old → i ≢ j → Concerns made event.now i j
         → LaneSettled workers.old workers.new i j }
-    ensures yard { IsYard workers.new }
-    ensures count { length workers.new ≡ length workers.old }
-    ensures world { world_of workers.new ≡ world_of workers.old }
-    ensures heaps { map shown_of workers.new ≡ map shown_of workers.old }
+    ensures keeps { KeepsWorld workers.old workers.new }
     ensures limits { AreLimits workers.new event.now result }
 {
     let at = event.worker as usize;
@@ -85,8 +76,7 @@ pub(crate) fn reply_in_yard<const SLI: u32>(
     name: Option<Name>,
     journal: &mut Journal,
 ) -> Reply
-    requires yard { IsYard workers.old }
-    requires inside { event.now.worker < length workers.old }
+    requires has { HasWorker workers.old event.now.worker }
     requires room { vec_len journal.old.entries + sum_below 8 (λ i. length (waits_in workers.old i event.now.worker)) ≤ vec_capacity journal.old.entries }
     requires meant { (made : List (Option Name)) × (target_name made event.now.call ≡ name) }
     ensures replied { (made : List (Option Name)) → target_name made event.now.call ≡ name → IsReplied (replay_of made journal.old.entries.items workers.old) event.now journal.new.entries.items workers.new result }

@@ -3,9 +3,10 @@ ghost use Rattle.std.specs.Prelude.{◌≡◌};
 ghost use Rattle.tlsf_calls.specs.Bytes.{bytes_of};
 ghost use Rattle.tlsf_crew.specs.worker.Calls.{by_heap};
 ghost use Rattle.tlsf_crew.specs.model.Heaps.{chunk_read};
+ghost use Rattle.tlsf_crew.specs.scripts.Scripts.{RepliesOwn};
 ghost use Rattle.tlsf_crew.specs.worker.Workers.{heap_of, SameButHeap};
 ghost use Rattle.tlsf_crew.specs.model.Targets.{target_name};
-ghost use Rattle.tlsf_crew.specs.model.OwnReplies.{IsHeapReply, own_allocating, own_writing, own_reading, own_resizing};
+ghost use Rattle.tlsf_crew.specs.model.OwnReplies.{own_allocating, own_writing, own_reading, own_resizing};
 
 use crate::worker::ports::Ports;
 use crate::worker::worker::Worker;
@@ -39,8 +40,7 @@ pub(crate) fn reply_to_own_allocate<const SLI: u32, P: Ports>(
     worker: &mut Worker<SLI, P>,
     len: u32,
 ) -> Reply
-    ensures replied { IsHeapReply result (heap_of worker.new) (own_allocating SLI (heap_of worker.old) len) }
-    ensures same { SameButHeap worker.old worker.new }
+    ensures own { RepliesOwn worker.old worker.new result (own_allocating SLI (heap_of worker.old) len) }
     ensures yard { P.keeps_yards SLI worker.old worker.new }
 {
     match worker.allocate(len) {
@@ -56,8 +56,7 @@ pub(crate) fn reply_to_own_write<const SLI: u32, P: Ports>(
     from: u32,
     bytes: &Chunk,
 ) -> Reply
-    ensures replied { IsHeapReply result (heap_of worker.new) (own_writing (heap_of worker.old) name from (bytes_of bytes.now)) }
-    ensures same { SameButHeap worker.old worker.new }
+    ensures { RepliesOwn worker.old worker.new result (own_writing (heap_of worker.old) name from (bytes_of bytes.now)) }
 {
     let Some(name) = name else {
         return Reply::Refused(CrewRefusal::Unmade);
@@ -107,8 +106,7 @@ pub(crate) fn reply_to_own_read<const SLI: u32, P: Ports>(
     from: u32,
     n: u32,
 ) -> Reply
-    ensures replied { IsHeapReply result (heap_of worker.new) (own_reading (heap_of worker.old) name from n) }
-    ensures same { SameButHeap worker.old worker.new }
+    ensures { RepliesOwn worker.old worker.new result (own_reading (heap_of worker.old) name from n) }
 {
     let Some(name) = name else {
         return Reply::Refused(CrewRefusal::Unmade);
@@ -125,8 +123,7 @@ pub(crate) fn reply_to_own_resize<const SLI: u32, P: Ports>(
     name: Option<Name>,
     len: u32,
 ) -> Reply
-    ensures replied { IsHeapReply result (heap_of worker.new) (own_resizing (heap_of worker.old) name len) }
-    ensures same { SameButHeap worker.old worker.new }
+    ensures { RepliesOwn worker.old worker.new result (own_resizing (heap_of worker.old) name len) }
 {
     let Some(name) = name else {
         return Reply::Refused(CrewRefusal::Unmade);

@@ -1,5 +1,5 @@
 ghost use Rattle.tlsf_heap.specs.Effects.{AsksLive};
-ghost use Rattle.tlsf_crew.specs.worker.Workers.{seen_of, SameButHeap, Stays};
+ghost use Rattle.tlsf_crew.specs.worker.Workers.{seen_of, LeavesRest};
 
 use crate::worker::ports::Ports;
 use crate::worker::worker::Worker;
@@ -16,9 +16,7 @@ impl<const SLI: u32, P: Ports> Worker<SLI, P> {
     /// ```
     pub fn is_live(&mut self, name: Name) -> bool
         ensures asks { AsksLive (seen_of self.old) (seen_of self.new) name result }
-        ensures same { SameButHeap self.old self.new }
-        ensures yard { P.keeps_yards SLI self.old self.new }
-        ensures stays { Stays P.extents self.old self.new }
+        ensures rest { LeavesRest P.keeps_yards P.extents self.old self.new }
     {
         P::heap_keeps();
         self.heap.is_live(name)

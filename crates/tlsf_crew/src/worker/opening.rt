@@ -1,9 +1,9 @@
 //! The sizes of a yard, and what opening any yard takes.
-ghost use Rattle.std.specs.Prelude.{◌≡◌, ◌↔◌, ◌<◌, None, replicate, IfOk, OnOk, IsErrOf};
+ghost use Rattle.std.specs.Prelude.{◌≡◌, None, replicate, IfOk, OnOk};
 ghost use Rattle.tlsf_class.specs.Classes.{IsLevel};
 ghost use Rattle.tlsf_heap.specs.Calls.{opened};
 ghost use Rattle.tlsf_heap.specs.Lawful.{IsRegion};
-ghost use Rattle.tlsf_crew.specs.worker.Sizes.{AreSizes};
+ghost use Rattle.tlsf_crew.specs.worker.Sizes.{AreSizes, RefusesSizes};
 ghost use Rattle.tlsf_crew.specs.worker.Workers.{heap_of, id_of};
 
 use crate::worker::worker::Worker;
@@ -26,8 +26,7 @@ pub(crate) fn check_sizes<const SLI: u32>(
 ) -> Result<(), OpenFault>
     requires { IsLevel SLI }
     ensures sizes { OnOk result (AreSizes SLI n words capacity) }
-    ensures bad_size { IsErrOf result OpenFault.BadSize ↔ ¬ (AreSizes SLI n words capacity) }
-    ensures never_worn { ¬ (IsErrOf result OpenFault.Worn) }
+    ensures refused { RefusesSizes SLI n words capacity result }
 {
     if n < 1
         || n > MOST_WORKERS

@@ -1,21 +1,20 @@
 ghost use Rattle.std.specs.Fn.{FnOnceTakesAt, FnOnceTakesAtMut};
-ghost use Rattle.std.specs.Prelude.{◌≡◌, ◌≢◌, ℕ, ◌+◌, ◌*◌, ◌<◌, ◌≤◌, List, length, map, Some, Err, OnSome, IfNone, IfOk, OnErr};
+ghost use Rattle.std.specs.Prelude.{◌≡◌, ℕ, ◌+◌, ◌*◌, ◌<◌, ◌≤◌, List, length, map, Some, IfNone, IfOk, OnErr};
 ghost use Rattle.tlsf_class.specs.Classes.{most_words};
 ghost use Rattle.tlsf_heap.specs.Blocks.{want};
 ghost use Rattle.tlsf_heap.specs.Calls.{allocated, released, written, read_of, read_answer, resized};
 ghost use Rattle.tlsf_heap.specs.Effects.{Allocates, Looks, Reads, Releases, Reports, Resizes, Writes};
-ghost use Rattle.tlsf_heap.specs.Footprint.{LeavesLive};
 ghost use Rattle.tlsf_heap.specs.InPlace.{ArePayload, Alters, Inspects};
 ghost use Rattle.tlsf_heap.specs.Lawful.{IsLawful};
 ghost use Rattle.tlsf_heap.specs.Laws.{IsLive};
-ghost use Rattle.tlsf_heap.specs.Touched.{FollowsNoForgery, allocate_touches, read_touches, release_touches, resize_touches, write_touches};
+ghost use Rattle.tlsf_heap.specs.Touched.{allocate_touches, read_touches, release_touches, resize_touches, write_touches};
 ghost use Rattle.tlsf_calls.specs.declared.took.Took.{Took};
 ghost use Rattle.tlsf_crew.specs.declared.worker.worker.Worker.{Worker};
-ghost use Rattle.tlsf_crew.specs.worker.Workers.{heap_of, seen_of, touched_of, touches_of, id_of, SameButHeap, Stays, KeepsHeap};
-ghost use Rattle.tlsf_crew.specs.worker.Calls.{by_heap, IsRefusedByHeap, PostedThere, ReleasedHere, ReleasedThere, AfterTake, TakenFrom};
+ghost use Rattle.tlsf_crew.specs.worker.Workers.{heap_of, seen_of, touches_of, LeavesRest, SameButHeap, Stays, KeepsHeap, WorksWithin};
+ghost use Rattle.tlsf_crew.specs.worker.Calls.{by_heap, AfterTake, HandsOut, Posts, ReleasesOrPosts, TakenFrom};
 ghost use Rattle.tlsf_crew.specs.worker.Drains.{IsCountOf};
-ghost use Rattle.tlsf_crew.specs.worker.Notes.{AllNoted, SourceNoted};
-ghost use Rattle.tlsf_crew.specs.worker.Slices.{post_of, EachReleased, MayTake};
+ghost use Rattle.tlsf_crew.specs.worker.Notes.{AllNoted, DrainsWithin, SourceNoted};
+ghost use Rattle.tlsf_crew.specs.worker.Slices.{post_of, EachReleased, KeepsRoom, MayTake};
 
 use crate::worker::lanes::Lanes;
 use crate::worker::notes::Notes;
@@ -38,7 +37,7 @@ pub(crate) const NO_POST: Post = Post {
 };
 
 /// A worker: the owner of one heap, with ports to the other workers of its yard, which are [`Lanes`] where nothing else is said.
-/// `SLI` is the level of the yard's heaps, 4 or 5. No call takes memory: its heap and its ports stay where they lie (`stays`).
+/// `SLI` is the level of the yard's heaps, 4 or 5. No call takes memory: its heap and its ports stay where they lie.
 #[derive(Drop)]
 pub struct Worker<const SLI: u32, P = Lanes> {
     pub(crate) heap: Heap<SLI>,
@@ -64,10 +63,7 @@ pub(crate) fn post<const SLI: u32, R, P: Exchange<R>>(
     rt: &R,
     name: Name,
 ) -> Result<(), CrewRefusal>
-    ensures own { name.heap ≡ id_of worker.old → (result ≡ Err (CrewRefusal.Heap Refusal.Foreign)) × (worker.new ≡ worker.old) }
-    ensures there { name.heap ≢ id_of worker.old → P.reaches worker.old.ports name.heap → PostedThere P.puts worker.old worker.new name result }
-    ensures nowhere { name.heap ≢ id_of worker.old → ¬ (P.reaches worker.old.ports name.heap) → (result ≡ Err CrewRefusal.Stranger) × (worker.new ≡ worker.old) }
-    ensures heap { worker.new.heap ≡ worker.old.heap }
+    ensures posts { Posts P.reaches P.puts worker.old worker.new name result }
     ensures stays { Stays P.extents worker.old worker.new }
 {
     if name.heap == worker.id {
@@ -85,12 +81,8 @@ pub(crate) fn release<const SLI: u32, R, P: Exchange<R>>(
     rt: &R,
     name: Name,
 ) -> Result<Released, CrewRefusal>
-    ensures here { name.heap ≡ id_of worker.old → ReleasedHere worker.old worker.new name result }
-    ensures there { name.heap ≢ id_of worker.old → P.reaches worker.old.ports name.heap → ReleasedThere P.puts worker.old worker.new name result }
-    ensures nowhere { name.heap ≢ id_of worker.old → ¬ (P.reaches worker.old.ports name.heap) → (result ≡ Err CrewRefusal.Stranger) × (worker.new ≡ worker.old) }
-    ensures touches { touches_of worker.new ≤ touches_of worker.old + 64 }
-    ensures touches_rise { touches_of worker.old ≤ touches_of worker.new }
-    ensures stays { Stays P.extents worker.old worker.new }
+    ensures releases { ReleasesOrPosts P.reaches P.puts worker.old worker.new name result }
+    ensures within { WorksWithin P.extents 64 worker.old worker.new }
 {
     if name.heap == worker.id {
         return match worker.heap.release(name) {
@@ -110,7 +102,7 @@ fn release_post<const SLI: u32, P: Ports>(worker: &mut Worker<SLI, P>, post: Pos
     ensures releases { Releases release_touches (seen_of worker.old) (seen_of worker.new) post.name result.answer }
     ensures ports { worker.new.ports ≡ worker.old.ports }
     ensures post { post_of result ≡ post }
-    ensures stays { Stays P.extents worker.old worker.new }
+    ensures within { WorksWithin P.extents 64 worker.old worker.new }
 {
     let answer = worker.heap.release(post.name);
     Took {
@@ -129,10 +121,8 @@ pub(crate) fn take_next<const SLI: u32, R, P: Exchange<R>>(
     requires { P.hears worker.old.ports source }
     ensures taken { TakenFrom P.takes worker.old worker.new source result }
     ensures still { P.hears worker.new.ports source }
-    ensures touches { OnSome result (touches_of worker.new ≤ touches_of worker.old + 64) }
     ensures untouched { IfNone result (touches_of worker.new ≡ touches_of worker.old) }
-    ensures touches_rise { touches_of worker.old ≤ touches_of worker.new }
-    ensures stays { Stays P.extents worker.old worker.new }
+    ensures within { WorksWithin P.extents 64 worker.old worker.new }
 {
     let post = worker.ports.take(rt, source)?;
     Some(release_post(worker, post))
@@ -151,11 +141,8 @@ fn release_posts<const SLI: u32, P: Ports, N: Notes>(
     requires few { length posts.now ≤ 4294967295 }
     ensures released { (tooks : List Took) × EachReleased P.sent_by N.noted worker.old worker.new notes.old notes.new source tooks × (map post_of tooks ≡ posts.now) × IsCountOf (record { taken = length posts.now; freed = result }) tooks }
     ensures ports { worker.new.ports ≡ worker.old.ports }
-    ensures room { N.has_room notes.new }
-    ensures kept { N.most notes.new ≡ N.most notes.old }
-    ensures touches { touches_of worker.new ≤ touches_of worker.old + 64 * length posts.now }
-    ensures touches_rise { touches_of worker.old ≤ touches_of worker.new }
-    ensures stays { Stays P.extents worker.old worker.new }
+    ensures notes { KeepsRoom N.has_room N.most notes.old notes.new }
+    ensures within { WorksWithin P.extents (64 * length posts.now) worker.old worker.new }
 {
     let mut freed = 0;
     for post in posts {
@@ -182,13 +169,7 @@ pub(crate) fn drain_source<const SLI: u32, R, P: Exchange<R>, N: Notes>(
     requires places { 0 < length places.old }
     requires room { N.has_room notes.old }
     ensures drained { (tooks : List Took) × SourceNoted (record { hears = P.hears; takes = P.takes; stops = P.stops; sent_by = P.sent_by; admitted = N.admitted; noted = N.noted }) worker.old worker.new notes.old notes.new source most tooks × IsCountOf result tooks }
-    ensures most { result.taken ≤ most }
-    ensures freed { result.freed ≤ result.taken }
-    ensures room { N.has_room notes.new }
-    ensures kept { N.most notes.new ≡ N.most notes.old }
-    ensures touches { touches_of worker.new ≤ touches_of worker.old + 64 * result.taken }
-    ensures touches_rise { touches_of worker.old ≤ touches_of worker.new }
-    ensures stays { Stays P.extents worker.old worker.new }
+    ensures bounds { DrainsWithin P.extents N.has_room N.most most worker.old worker.new notes.old notes.new result }
 {
     let mut drained = Drained { taken: 0, freed: 0 };
     while drained.taken < most {
@@ -220,12 +201,7 @@ pub(crate) fn drain_each<const SLI: u32, R, P: Exchange<R>, N: Notes>(
 ) -> Drained
     requires room { N.has_room notes.old }
     ensures drained { AllNoted (record { hears = P.hears; takes = P.takes; stops = P.stops; sent_by = P.sent_by; admitted = N.admitted; noted = N.noted }) worker.old worker.new notes.old notes.new (P.sources worker.old.ports) most result }
-    ensures most { result.taken ≤ most }
-    ensures freed { result.freed ≤ result.taken }
-    ensures kept { N.most notes.new ≡ N.most notes.old }
-    ensures touches { touches_of worker.new ≤ touches_of worker.old + 64 * result.taken }
-    ensures touches_rise { touches_of worker.old ≤ touches_of worker.new }
-    ensures stays { Stays P.extents worker.old worker.new }
+    ensures bounds { DrainsWithin P.extents N.has_room N.most most worker.old worker.new notes.old notes.new result }
 {
     let mut places = [NO_POST; AT_ONCE];
     let mut drained = Drained { taken: 0, freed: 0 };
@@ -252,9 +228,7 @@ impl<const SLI: u32, P: Ports> Worker<SLI, P> {
     pub fn allocate(&mut self, len: u32) -> Result<Name, CrewRefusal>
         ensures answer { result ≡ by_heap (allocated SLI (heap_of self.old) len).answer }
         ensures allocates { Allocates allocate_touches SLI (want len) len (seen_of self.old) (seen_of self.new) (allocated SLI (heap_of self.old) len).answer }
-        ensures same { SameButHeap self.old self.new }
-        ensures yard { P.keeps_yards SLI self.old self.new }
-        ensures stays { Stays P.extents self.old self.new }
+        ensures rest { LeavesRest P.keeps_yards P.extents self.old self.new }
     {
         as_crew::<P, _>(self.heap.allocate(len))
     }
@@ -269,9 +243,7 @@ impl<const SLI: u32, P: Ports> Worker<SLI, P> {
     pub fn free(&mut self, name: Name) -> Result<(), CrewRefusal>
         ensures answer { result ≡ by_heap (released (heap_of self.old) name).answer }
         ensures releases { Releases release_touches (seen_of self.old) (seen_of self.new) name (released (heap_of self.old) name).answer }
-        ensures same { SameButHeap self.old self.new }
-        ensures yard { P.keeps_yards SLI self.old self.new }
-        ensures stays { Stays P.extents self.old self.new }
+        ensures rest { LeavesRest P.keeps_yards P.extents self.old self.new }
     {
         as_crew::<P, _>(self.heap.release(name))
     }
@@ -284,9 +256,7 @@ impl<const SLI: u32, P: Ports> Worker<SLI, P> {
     pub fn write(&mut self, name: Name, at: u32, bytes: &[u8]) -> Result<(), CrewRefusal>
         ensures answer { result ≡ by_heap (written (heap_of self.old) name at bytes.now).answer }
         ensures writes { Writes (write_touches (length bytes.now)) (seen_of self.old) (seen_of self.new) name at bytes.now (written (heap_of self.old) name at bytes.now).answer }
-        ensures same { SameButHeap self.old self.new }
-        ensures yard { P.keeps_yards SLI self.old self.new }
-        ensures stays { Stays P.extents self.old self.new }
+        ensures rest { LeavesRest P.keeps_yards P.extents self.old self.new }
     {
         as_crew::<P, _>(self.heap.write(name, at, bytes))
     }
@@ -300,9 +270,7 @@ impl<const SLI: u32, P: Ports> Worker<SLI, P> {
     pub fn read(&mut self, name: Name, at: u32, out: &mut [u8]) -> Result<(), CrewRefusal>
         ensures answer { result ≡ by_heap (read_answer (read_of (heap_of self.old) name at (length out.old))) }
         ensures reads { Reads (read_touches (length out.old)) (seen_of self.old) (seen_of self.new) name at out.old out.new (read_answer (read_of (heap_of self.old) name at (length out.old))) }
-        ensures same { SameButHeap self.old self.new }
-        ensures yard { P.keeps_yards SLI self.old self.new }
-        ensures stays { Stays P.extents self.old self.new }
+        ensures rest { LeavesRest P.keeps_yards P.extents self.old self.new }
     {
         as_crew::<P, _>(self.heap.read(name, at, out))
     }
@@ -313,7 +281,7 @@ impl<const SLI: u32, P: Ports> Worker<SLI, P> {
     ///
     /// Refused as the own heap refuses it: `Foreign` where the name is of another worker's heap, else `Stale`; `f` is then not called.
     ///
-    /// - `touches`: at most four touches of the heap's memory; what `f` does there is not counted.
+    /// - `hands`: at most four touches of the heap's memory; what `f` does there is not counted.
     ///
     /// ```
     /// worker.alter(name, |words| words[0] = 7)?; // the first eight bytes of the block
@@ -324,16 +292,10 @@ impl<const SLI: u32, P: Ports> Worker<SLI, P> {
         f: F,
     ) -> Result<R, CrewRefusal>
         requires { IsLive (heap_of self.old) name → (words : List ℕ) → ArePayload (heap_of self.old) name words → FnOnceTakesAtMut F.FnOnce f words }
-        ensures answer { IsRefusedByHeap (heap_of self.old) name result }
+        ensures hands { HandsOut (seen_of self.old) (seen_of self.new) name result }
         ensures altered { IfOk result (λ r. Alters F.FnOnce f (heap_of self.old) name r (heap_of self.new)) }
         ensures err { OnErr result (heap_of self.new ≡ heap_of self.old) }
-        ensures same { SameButHeap self.old self.new }
-        ensures yard { P.keeps_yards SLI self.old self.new }
-        ensures touches { touches_of self.new ≤ touches_of self.old + 4 }
-        ensures touches_rise { touches_of self.old ≤ touches_of self.new }
-        ensures stays { Stays P.extents self.old self.new }
-        ensures leaves { LeavesLive (heap_of self.old).blocks (touched_of self.old) (touched_of self.new) }
-        ensures forged { FollowsNoForgery (seen_of self.old) (seen_of self.new) name }
+        ensures rest { LeavesRest P.keeps_yards P.extents self.old self.new }
     {
         as_crew::<P, _>(self.heap.alter(name, f))
     }
@@ -343,23 +305,17 @@ impl<const SLI: u32, P: Ports> Worker<SLI, P> {
     ///
     /// Refused as the own heap refuses it: `Foreign` where the name is of another worker's heap, else `Stale`; `f` is then not called.
     ///
-    /// - `touches`: at most four touches of the heap's memory; what `f` reads there is not counted.
+    /// - `hands`: at most four touches of the heap's memory; what `f` reads there is not counted.
     ///
     /// ```
     /// let first = worker.inspect(name, |words| words[0])?; // the first eight bytes of the block
     /// ```
     pub fn inspect<R, F: FnOnce(&[u64]) -> R>(&mut self, name: Name, f: F) -> Result<R, CrewRefusal>
         requires { IsLive (heap_of self.old) name → (words : List ℕ) → ArePayload (heap_of self.old) name words → FnOnceTakesAt F.FnOnce f words }
-        ensures answer { IsRefusedByHeap (heap_of self.old) name result }
+        ensures hands { HandsOut (seen_of self.old) (seen_of self.new) name result }
         ensures inspected { IfOk result (λ r. Inspects F.FnOnce f (heap_of self.old) name r) }
         ensures heap { heap_of self.new ≡ heap_of self.old }
-        ensures same { SameButHeap self.old self.new }
-        ensures yard { P.keeps_yards SLI self.old self.new }
-        ensures touches { touches_of self.new ≤ touches_of self.old + 4 }
-        ensures touches_rise { touches_of self.old ≤ touches_of self.new }
-        ensures stays { Stays P.extents self.old self.new }
-        ensures leaves { LeavesLive (heap_of self.old).blocks (touched_of self.old) (touched_of self.new) }
-        ensures forged { FollowsNoForgery (seen_of self.old) (seen_of self.new) name }
+        ensures rest { LeavesRest P.keeps_yards P.extents self.old self.new }
     {
         as_crew::<P, _>(self.heap.inspect(name, f))
     }
@@ -379,9 +335,7 @@ impl<const SLI: u32, P: Ports> Worker<SLI, P> {
     pub fn resize(&mut self, name: Name, len: u32) -> Result<(), CrewRefusal>
         ensures answer { result ≡ by_heap (resized (heap_of self.old) name len).answer }
         ensures resizes { Resizes resize_touches (want len) len (seen_of self.old) (seen_of self.new) name (resized (heap_of self.old) name len).answer }
-        ensures same { SameButHeap self.old self.new }
-        ensures yard { P.keeps_yards SLI self.old self.new }
-        ensures stays { Stays P.extents self.old self.new }
+        ensures rest { LeavesRest P.keeps_yards P.extents self.old self.new }
     {
         as_crew::<P, _>(self.heap.resize(name, len))
     }
@@ -395,9 +349,7 @@ impl<const SLI: u32, P: Ports> Worker<SLI, P> {
     /// ```
     pub fn report(&mut self) -> Report
         ensures reports { Reports SLI (seen_of self.old) (seen_of self.new) result }
-        ensures same { SameButHeap self.old self.new }
-        ensures yard { P.keeps_yards SLI self.old self.new }
-        ensures stays { Stays P.extents self.old self.new }
+        ensures rest { LeavesRest P.keeps_yards P.extents self.old self.new }
     {
         P::heap_keeps();
         self.heap.report()
@@ -424,9 +376,7 @@ impl<const SLI: u32, P: Ports> Worker<SLI, P> {
         ensures looks { Looks (seen_of self.old) (seen_of self.new) at result }
         ensures was_lawful { IsLawful (heap_of self.old) }
         ensures most { (heap_of self.old).words ≤ most_words SLI }
-        ensures same { SameButHeap self.old self.new }
-        ensures yard { P.keeps_yards SLI self.old self.new }
-        ensures stays { Stays P.extents self.old self.new }
+        ensures rest { LeavesRest P.keeps_yards P.extents self.old self.new }
     {
         P::heap_keeps();
         self.heap.block_at(at)

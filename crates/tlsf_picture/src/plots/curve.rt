@@ -3,6 +3,7 @@ ghost use Rattle.std.specs.Prelude.{◌≡◌, ◌+◌, ◌<◌, ◌≤◌, ◌^
 ghost use Rattle.tlsf_picture.specs.plots.Curves as drawn;
 ghost use Rattle.tlsf_picture.specs.plots.Peaks.{IsPeak, live_in};
 ghost use Rattle.tlsf_picture.specs.plots.Standings.{IsLook, standing_in};
+ghost use Rattle.tlsf_picture.specs.Steps.{HasPoint, IsMostPoints};
 
 use crate::plots::look::Look;
 use crate::plots::peak::Peak;
@@ -12,8 +13,7 @@ use std::alloc::{AllocError, Global};
 
 /// How many points are drawn as one, so that at most `most` are drawn.
 pub fn stride_for(most: usize, points: usize) -> usize
-    requires most { 0 < most }
-    requires few { most ≤ 2 ^ 16 }
+    requires most { IsMostPoints most }
     requires some { 0 < points }
     requires points { points ≤ 2 ^ 16 }
     ensures stride { result ≡ drawn.stride_for most points }
@@ -66,8 +66,7 @@ fn standing_at(len: u32, points: &[Point], number: usize) -> Standing
 
 // The line to look at among one point more than the first of these points.
 fn worse_line(len: u32, points: &[Point], number: usize, worst: Look) -> Look
-    requires within { number < length points.now }
-    requires few { length points.now ≤ 2 ^ 16 }
+    requires point { HasPoint points.now number }
     requires worst { IsLook len points.now number worst }
     ensures { IsLook len points.now (number + 1) result }
 {
@@ -83,8 +82,7 @@ fn worse_line(len: u32, points: &[Point], number: usize, worst: Look) -> Look
 /// The line to look at of a heap whose worker's longest request is of this many bytes. It is the first of those after which the
 /// heap stands worst.
 pub fn worst_line(len: u32, points: &[Point]) -> Look
-    requires some { 0 < length points.now }
-    requires few { length points.now ≤ 2 ^ 16 }
+    requires { HasPoint points.now 0 }
     ensures { IsLook len points.now (length points.now) result }
 {
     let standing = standing_at(len, points, 0);
@@ -105,8 +103,7 @@ fn live_at(points: &[Point], number: usize) -> u32
 
 // The peak among one point more than the first of these points.
 fn higher_peak(points: &[Point], number: usize, peak: Peak) -> Peak
-    requires within { number < length points.now }
-    requires few { length points.now ≤ 2 ^ 16 }
+    requires point { HasPoint points.now number }
     requires peak { IsPeak points.now number peak }
     ensures { IsPeak points.now (number + 1) result }
 {
@@ -123,8 +120,7 @@ fn higher_peak(points: &[Point], number: usize, peak: Peak) -> Peak
 
 /// The peak of a heap: the first line after which most words are live.
 pub fn peak_of(points: &[Point]) -> Peak
-    requires some { 0 < length points.now }
-    requires few { length points.now ≤ 2 ^ 16 }
+    requires { HasPoint points.now 0 }
     ensures { IsPeak points.now (length points.now) result }
 {
     let live = live_at(points, 0);

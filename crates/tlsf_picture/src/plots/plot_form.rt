@@ -1,8 +1,9 @@
 //! The forms of a plot.
-ghost use Rattle.std.specs.Prelude.{◌≡◌, ◌<◌, ◌≤◌, ◌^◌, length, OnOk, string_bytes};
+ghost use Rattle.std.specs.Prelude.{◌≡◌, ◌<◌, ◌≤◌, length, OnOk, string_bytes};
 ghost use Rattle.tlsf_map.specs.Told.{Adds};
 ghost use Rattle.tlsf_picture.specs.plots.Plots as drawn;
 ghost use Rattle.tlsf_picture.specs.plots.Told.{plot_told};
+ghost use Rattle.tlsf_picture.specs.Steps.{IsMostPoints};
 
 use crate::form::Form;
 use crate::plots::chart::Chart;
@@ -13,8 +14,7 @@ use std::alloc::{AllocError, Global};
 /// The most points of a line in a form.
 pub fn most_points(form: Form) -> usize
     ensures most { result ≡ drawn.most_points form }
-    ensures some { 0 < result }
-    ensures few { result ≤ 2 ^ 16 }
+    ensures range { IsMostPoints result }
 {
     match form {
         Form::Svg => 2000,

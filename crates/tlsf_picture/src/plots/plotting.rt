@@ -1,12 +1,11 @@
 //! The plot of a trace.
-ghost use Rattle.std.specs.Prelude.{◌≡◌, ◌<◌, ◌≤◌, ◌^◌, vec_len, IfOk, string_bytes};
-ghost use Rattle.tlsf_class.specs.Classes.{IsLevel};
-ghost use Rattle.tlsf_lines.specs.Ranges.{IsHeaderInRange};
+ghost use Rattle.std.specs.Prelude.{◌≡◌, ◌<◌, vec_len, IfOk};
 ghost use Rattle.tlsf_lines.specs.ScriptSoFar.{IsScript};
 ghost use Rattle.tlsf_lines.specs.Trace.{Trace};
 ghost use Rattle.tlsf_picture.specs.plots.Plots.{AreCharts, IsChart, Plots};
 ghost use Rattle.tlsf_trace.specs.Output.{level_in};
 ghost use Rattle.tlsf_trace.specs.Replay.{IsRun};
+ghost use Rattle.tlsf_picture.specs.Steps.{HasHeap, IsMostPoints, IsPlayable};
 
 use crate::form::Form;
 use crate::plots::chart::Chart;
@@ -25,12 +24,8 @@ fn chart_of<const SLI: u32>(
     heap: u32,
     most: usize,
 ) -> Result<Chart, AllocError>
-    requires level { IsLevel SLI }
-    requires header { IsHeaderInRange script.now.header }
-    requires lines { vec_len script.now.ends ≤ 32768 }
-    requires heap { heap < script.now.header.workers }
-    requires most { 0 < most }
-    requires few { most ≤ 2 ^ 16 }
+    requires heap { HasHeap SLI script.now heap }
+    requires most { IsMostPoints most }
     ensures { (trace : Trace) → level_in trace.header ≡ SLI → IsScript script.now trace → IfOk result (IsChart most trace heap) }
 {
     let words = script.header.words;
@@ -59,11 +54,8 @@ fn charts_at<const SLI: u32>(
     script: &Script,
     most: usize,
 ) -> Result<Vec<Chart>, AllocError>
-    requires level { IsLevel SLI }
-    requires header { IsHeaderInRange script.now.header }
-    requires lines { vec_len script.now.ends ≤ 32768 }
-    requires most { 0 < most }
-    requires few { most ≤ 2 ^ 16 }
+    requires script { IsPlayable SLI script.now }
+    requires most { IsMostPoints most }
     ensures charts { (trace : Trace) → level_in trace.header ≡ SLI → IsScript script.now trace → IfOk result (λ charts. AreCharts most trace charts.items) }
     ensures count { IfOk result (λ charts. vec_len charts ≡ script.now.header.workers) }
 {
@@ -87,13 +79,7 @@ impl Puts for Plot {
 }
 
 impl<const SLI: u32> Plays<SLI> for Plot {
-    fn output(&self, alloc: Global, script: &Script) -> Result<String, AllocError>
-        requires level { IsLevel SLI }
-        requires header { IsHeaderInRange script.now.header }
-        requires lines { vec_len script.now.ends ≤ 32768 }
-        ensures { (trace : Trace) → level_in trace.header ≡ SLI → IsScript script.now trace
-            → IfOk result (λ text. Plots self.now.form trace (string_bytes text)) }
-    {
+    fn output(&self, alloc: Global, script: &Script) -> Result<String, AllocError> {
         let charts = charts_at::<SLI>(alloc, script, most_points(self.form))?;
         let mut text = String::new(alloc);
         write_plot(alloc, &mut text, self.form, &charts)?;

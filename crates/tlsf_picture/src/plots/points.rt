@@ -1,14 +1,13 @@
 //! The points of a heap over the lines of its trace.
 ghost use Rattle.std.specs.Prelude.{◌≡◌, ◌+◌, ◌<◌, ◌≤◌, length, vec_len, IfOk, OnOk};
-ghost use Rattle.tlsf_class.specs.Classes.{IsLevel};
 ghost use Rattle.tlsf_crew.specs.lanes.Yard.{world_of, IsYard};
 ghost use Rattle.tlsf_crew.specs.model.World.{heap_in};
 ghost use Rattle.tlsf_heap.specs.Reports.{report_of};
-ghost use Rattle.tlsf_lines.specs.Ranges.{IsHeaderInRange};
 ghost use Rattle.tlsf_lines.specs.ScriptSoFar.{IsScript};
 ghost use Rattle.tlsf_lines.specs.Trace.{Trace};
 ghost use Rattle.tlsf_picture.specs.plots.Points as told;
 ghost use Rattle.tlsf_trace.specs.Players.{Stands};
+ghost use Rattle.tlsf_picture.specs.Steps.{HasHeap, ShowsSame};
 
 use crate::plots::point::Point;
 use std::alloc::{AllocError, Global};
@@ -109,8 +108,7 @@ pub fn longest_of(worker: u32, script: &Script) -> u32
 fn report_on<const SLI: u32>(workers: &mut [Worker<SLI>], heap: u32) -> Report
     requires yard { IsYard workers.old }
     requires heap { heap < length workers.old }
-    ensures yard { IsYard workers.new }
-    ensures world { world_of workers.new ≡ world_of workers.old }
+    ensures shows { ShowsSame workers.old workers.new }
     ensures report { result ≡ report_of SLI (heap_in (world_of workers.old) heap) }
 {
     workers[heap as usize].report()
@@ -144,10 +142,7 @@ pub fn points_of<const SLI: u32>(
     script: &Script,
     heap: u32,
 ) -> Result<Vec<Point>, AllocError>
-    requires level { IsLevel SLI }
-    requires header { IsHeaderInRange script.now.header }
-    requires lines { vec_len script.now.ends ≤ 32768 }
-    requires heap { heap < script.now.header.workers }
+    requires { HasHeap SLI script.now heap }
     ensures points { (trace : Trace) → IsScript script.now trace → IfOk result (λ points. points.items ≡ told.points_of SLI trace heap) }
     ensures count { IfOk result (λ points. vec_len points ≡ vec_len script.now.ends + 2) }
 {

@@ -1,12 +1,11 @@
 //! The line to look at, and the picture of the heaps after it.
-ghost use Rattle.std.specs.Prelude.{◌≡◌, ℕ, ◌+◌, ◌<◌, ◌≤◌, vec_len, IfOk, string_bytes};
-ghost use Rattle.tlsf_class.specs.Classes.{IsLevel};
-ghost use Rattle.tlsf_lines.specs.Ranges.{IsHeaderInRange};
+ghost use Rattle.std.specs.Prelude.{◌≡◌, ℕ, ◌+◌, ◌<◌, IfOk};
 ghost use Rattle.tlsf_lines.specs.ScriptSoFar.{IsScript};
 ghost use Rattle.tlsf_lines.specs.Trace.{Trace};
 ghost use Rattle.tlsf_picture.specs.plots.Worst.{DrawsWorst, IsNamed, IsWorstOf};
 ghost use Rattle.tlsf_trace.specs.Output.{level_in};
 ghost use Rattle.tlsf_trace.specs.Replay.{IsRun};
+ghost use Rattle.tlsf_picture.specs.Steps.{HasHeap, IsPlayable};
 
 use crate::drawing::picture_behind;
 use crate::form::Form;
@@ -24,10 +23,7 @@ fn named_above<const SLI: u32>(
     script: &Script,
     heap: u32,
 ) -> Result<Look, AllocError>
-    requires level { IsLevel SLI }
-    requires header { IsHeaderInRange script.now.header }
-    requires lines { vec_len script.now.ends ≤ 32768 }
-    requires heap { heap < script.now.header.workers }
+    requires { HasHeap SLI script.now heap }
     ensures { (trace : Trace) → level_in trace.header ≡ SLI → IsScript script.now trace → IfOk result (IsNamed trace heap) }
 {
     let points = points_of::<SLI>(alloc, script, heap)?;
@@ -48,9 +44,7 @@ fn worse_named(worst: Look, next: Look) -> Look
 
 // The line to look at of a trace, at its level.
 fn worst_on<const SLI: u32>(alloc: Global, script: &Script) -> Result<Look, AllocError>
-    requires level { IsLevel SLI }
-    requires header { IsHeaderInRange script.now.header }
-    requires lines { vec_len script.now.ends ≤ 32768 }
+    requires { IsPlayable SLI script.now }
     ensures { (trace : Trace) → level_in trace.header ≡ SLI → IsScript script.now trace → IfOk result (IsWorstOf trace trace.header.workers) }
 {
     let mut worst = named_above::<SLI>(alloc, script, 0)?;
@@ -73,13 +67,7 @@ impl Puts for WorstDrawing {
 }
 
 impl<const SLI: u32> Plays<SLI> for WorstDrawing {
-    fn output(&self, alloc: Global, script: &Script) -> Result<String, AllocError>
-        requires level { IsLevel SLI }
-        requires header { IsHeaderInRange script.now.header }
-        requires lines { vec_len script.now.ends ≤ 32768 }
-        ensures { (trace : Trace) → level_in trace.header ≡ SLI → IsScript script.now trace
-            → IfOk result (λ text. DrawsWorst self.now.form trace (string_bytes text)) }
-    {
+    fn output(&self, alloc: Global, script: &Script) -> Result<String, AllocError> {
         let look = worst_on::<SLI>(alloc, script)?;
         picture_behind::<SLI>(alloc, script, self.form, look.line)
     }

@@ -1,6 +1,6 @@
 -- Settling a lane leaves the world as it is, and a post or a take over a settled lane changes that lane alone.
-use Rattle.tlsf_crew.proofs.Common.{◌≡◌, ◌≢◌, ℕ, List, Some, length, sym, ◌∙◌, refl, subst, drop_at, append-nil, PostEnd, TakeEnd, waited, taken, Worker, Lanes, post_at, take_at, BothBeside, IsYard, lane_waits, world_of, OnlyLaneSettled}
-use Rattle.tlsf_crew.proofs.lemmas.lanes.LaneSlots.{step_change}
+use Rattle.tlsf_crew.proofs.Common.{◌≡◌, ◌≢◌, ℕ, List, Some, length, sym, ◌∙◌, refl, subst, drop_at, append-nil, PostEnd, TakeEnd, waited, taken, Worker, Lanes, post_at, take_at, BothBeside, IsYard, lane_waits, world_of, KeepsWorld, OnlyLaneSettled}
+use Rattle.tlsf_crew.proofs.lemmas.lanes.LaneSlots.{step_change, step_heaps}
 use Rattle.tlsf_crew.proofs.lemmas.model.Edits.{with_same}
 use Rattle.tlsf_crew.proofs.lemmas.lanes.LaneChanges.{changed_world, waits_between, changed_yard}
 use Rattle.tlsf_crew.proofs.lemmas.lanes.Signed.{AreFrom}
@@ -32,3 +32,11 @@ settled_yard ws vs i j ne s yard =
     let c = step_change ws vs i j ne s in
     let new = subst (AreFrom i) (sym (waits_after _ _ _ _ m)) (signed_before ws i j _ _ _ _ c.post_is c.take_is m yard) in
     changed_yard ws vs i j _ _ _ _ ne c new yard
+
+pub lane_keeps : {sli : ℕ} (ws vs : List (Worker sli Lanes)) (i j : ℕ) → i ≢ j → OnlyLaneSettled ws i j vs → IsYard ws → KeepsWorld ws vs
+lane_keeps ws vs i j ne s yard = record {
+  yard = settled_yard ws vs i j ne s yard;
+  count = (step_change ws vs i j ne s).len;
+  world = settled_world ws vs i j ne s;
+  heaps = step_heaps ws vs i j ne s;
+}

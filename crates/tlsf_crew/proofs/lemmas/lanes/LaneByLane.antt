@@ -1,6 +1,12 @@
 -- Where the lanes of a column, and then the columns, were settled one after another, all lanes were.
-use Rattle.tlsf_crew.proofs.Common.{◌≡◌, ◌≢◌, ℕ, ◌+◌, ◌<◌, ◌≤◌, List, length, sym, ◌∙◌, arith, refl, inl, inr, cases_eq, Worker, Lanes, LaneSettled, OnlyLaneSettled, SameLane, ColumnSettled, EachColumnSettled}
+use Rattle.tlsf_crew.proofs.Common.{◌≡◌, ◌≢◌, ℕ, ◌+◌, ◌<◌, ◌≤◌, List, length, sym, ◌∙◌, arith, refl, inl, inr, cases_eq, Worker, Lanes, IsYard, KeepsWorld, LaneSettled, OnlyLaneSettled, SameLane, ColumnSettled, EachColumnSettled}
 use Rattle.tlsf_crew.proofs.lemmas.lanes.LaneSlots.{step_change, step_same, same_then}
+
+pub keeps_none : {sli : ℕ} (ws : List (Worker sli Lanes)) → IsYard ws → KeepsWorld ws ws
+keeps_none ws yard = record { yard = yard; count = refl; world = refl; heaps = refl }
+
+pub keeps_then : {sli : ℕ} (ws vs us : List (Worker sli Lanes)) → KeepsWorld ws vs → KeepsWorld vs us → KeepsWorld ws us
+keeps_then ws vs us first next = record { yard = next.yard; count = next.count ∙ first.count; world = next.world ∙ first.world; heaps = next.heaps ∙ first.heaps }
 
 pub step_settled : {sli : ℕ} (ws vs : List (Worker sli Lanes)) (i j : ℕ) → i ≢ j → OnlyLaneSettled ws i j vs → LaneSettled ws vs i j
 step_settled ws vs i j ne s =

@@ -1,5 +1,5 @@
 -- A call that takes nothing is answered as the model answers it, whatever the ports of its worker.
-use Rattle.tlsf_crew.proofs.Common.{◌==◌, true, false, ◌≡◌, ◌≢◌, ◌⊎◌, ℕ, ◌<◌, ◌≤◌, List, Option, Some, None, Result, Ok, Err, length, sym, ◌∙◌, ap, arith, refl, subst, inl, inr, cases_eq, nat_tests, HeapState, Name, Refusal, bytes_of, Chunk, Entry, Call, Allocate, Release, Write, Read, Resize, Target, Released, Reply, Made, Posted, Wrote, Got, Resized, Refused, CrewRefusal, Full, Stranger, Unmade, Worker, allocated, chunk_read, released, resized, written, heap_of, id_of, SameButHeap, KeepsHeap, ReleasedHere, ReleasedThere, freed_by, posted_as, put_answer, IsHeapReply, HeapReply, own_allocating, own_freeing, own_named, own_writing, own_reading, own_resizing, reply_by, IsQuiet, ReleasedAnywhere, QuietCall, reply_released, told_of, HasHeap, IsModelAnswer, MayTell, Progress, told_by, told_more, World, WorldReply, answered, by_own, called, freeing, heap_in, name_of, posting, releasing, releasing_named}
+use Rattle.tlsf_crew.proofs.Common.{◌==◌, true, false, ◌≡◌, ◌≢◌, ◌⊎◌, ℕ, ◌<◌, ◌≤◌, List, Option, Some, None, Result, Ok, Err, length, sym, ◌∙◌, ap, arith, refl, subst, inl, inr, cases_eq, nat_tests, HeapState, Name, Refusal, bytes_of, Chunk, Entry, Call, Allocate, Release, Write, Read, Resize, Target, Released, Reply, Made, Posted, Wrote, Got, Resized, Refused, CrewRefusal, Full, Stranger, Unmade, Worker, allocated, chunk_read, released, resized, written, heap_of, id_of, SameButHeap, KeepsHeap, ReleasedHere, ReleasedThere, freed_by, posted_as, put_answer, IsHeapReply, HeapReply, own_allocating, own_freeing, own_named, own_writing, own_reading, own_resizing, reply_by, IsQuiet, ReleasesOrPosts, QuietCall, reply_released, told_of, HasHeap, IsModelAnswer, MayTell, Progress, told_by, told_more, World, WorldReply, answered, by_own, called, freeing, heap_in, name_of, posting, releasing, releasing_named}
 use Rattle.tlsf_heap.specs.Calls as heap
 use Rattle.tlsf_crew.specs.model.OwnReplies.{reply_freed}
 use Rattle.tlsf_crew.specs.scripts.Scripts.{entry_by}
@@ -172,7 +172,7 @@ put_answered sli n at h made entries target name (Err back) known ne near = λ l
 
 -- a release is a quiet call or a put, by ports that reach each other worker and none else
 pub release_by : {sli : ℕ} {P : Type 0} (n : ℕ) (reaches : P → ℕ → Type 0) (puts : ℕ → P → P → Name → Result (Unit {0}) CrewRefusal → Type 0) (a v : Worker sli P) (target : Target) (name : Name) (made : List (Option Name))
-    (entries : List Entry) (answer : Result Released CrewRefusal) (IsStep : Worker sli P → Reply → Type 0) → name_of made target ≡ Some name → ReleasedAnywhere reaches puts a v name answer
+    (entries : List Entry) (answer : Result Released CrewRefusal) (IsStep : Worker sli P → Reply → Type 0) → name_of made target ≡ Some name → ReleasesOrPosts reaches puts a v name answer
     → reaches a.ports name.heap ⊎ ((name.heap ≢ id_of a → n ≤ name.heap) × ¬ (reaches a.ports name.heap))
     → ((u : Worker sli P) (reply : Reply) → KeepsHeap (heap_of a) (heap_of u) → QuietCall n a u (Release target) made entries reply → IsStep u reply)
     → (name.heap ≢ id_of a → reaches a.ports name.heap → ReleasedThere puts a v name answer → IsStep v (reply_released answer)) → IsStep v (reply_released answer)

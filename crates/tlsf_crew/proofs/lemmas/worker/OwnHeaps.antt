@@ -1,5 +1,5 @@
 -- A call leaves a heap its number, and leaves it lawful.
-use Rattle.tlsf_crew.proofs.Common.{◌≡◌, ℕ, List, [], ◌∷◌, sym, ◌∙◌, ap, subst, refl, arith, Result, Ok, Err, IfOk, OnErr, HeapState, IsLawful, IsRegion, opened, Name, KeepsHeap, IsHeapOf}
+use Rattle.tlsf_crew.proofs.Common.{◌≡◌, ℕ, List, [], ◌∷◌, sym, ◌∙◌, ap, subst, refl, Result, Ok, Err, IfOk, OnErr, HeapState, IsLawful, IsRegion, opened, Name, KeepsHeap, IsHeapOf}
 use Rattle.std.specs.Borrow.{MutBor}
 use Rattle.std.specs.Fn.{Once}
 use Rattle.tlsf_heap.specs.Calls.{Call, answered, Allocate, Write}

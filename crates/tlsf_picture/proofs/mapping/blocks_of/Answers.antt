@@ -9,7 +9,7 @@ use Rattle.tlsf_picture.proofs.mapping.blocks_of.Goals as goal
 pub overflow_add-at : goal.overflow_add-at
 overflow_add-at g c =
     let h = heap_of c.args.worker.now in
-    let same = c.loop-block.invariant.heap in
+    let same = c.loop-block.invariant.left.heap in
     let lawful : IsLawful h = subst IsLawful same c.in-Some.ensures.was_lawful in
     let found : placed_at h.blocks c.loop-block.at ≡ Some c.in-Some.block = ap (λ (x : HeapState). placed_at x.blocks c.loop-block.at) (sym same) ∙ sym c.in-Some.ensures.looks.answer_is in
     let goes = walk_on (labelled (known_in c.args.labels.now)) h.blocks c.loop-block.at c.loop-block.blocks.items lawful.rooms c.loop-block.invariant.walked c.in-Some.block found in
@@ -19,7 +19,7 @@ overflow_add-at g c =
 pub loop-block-smaller : goal.loop-block-smaller
 loop-block-smaller g c =
     let h = heap_of c.args.worker.now in
-    let same = c.loop-block.invariant.heap in
+    let same = c.loop-block.invariant.left.heap in
     let lawful : IsLawful h = subst IsLawful same c.in-Some.ensures.was_lawful in
     let found : placed_at h.blocks c.loop-block.at ≡ Some c.in-Some.block = ap (λ (x : HeapState). placed_at x.blocks c.loop-block.at) (sym same) ∙ sym c.in-Some.ensures.looks.answer_is in
     let goes = walk_on (labelled (known_in c.args.labels.now)) h.blocks c.loop-block.at c.loop-block.blocks.items lawful.rooms c.loop-block.invariant.walked c.in-Some.block found in
@@ -28,7 +28,7 @@ loop-block-smaller g c =
 pub loop-block-preserved : goal.loop-block-preserved
 loop-block-preserved g c =
     let h = heap_of c.args.worker.now in
-    let same = c.loop-block.invariant.heap in
+    let same = c.loop-block.invariant.left.heap in
     let lawful : IsLawful h = subst IsLawful same c.in-Some.ensures.was_lawful in
     let found : placed_at h.blocks c.loop-block.at ≡ Some c.in-Some.block = ap (λ (x : HeapState). placed_at x.blocks c.loop-block.at) (sym same) ∙ sym c.in-Some.ensures.looks.answer_is in
     let label = labelled (known_in c.args.labels.now) in
@@ -36,15 +36,14 @@ loop-block-preserved g c =
     let items : c.push.new.self.items ≡ c.loop-block.blocks.items ++ label c.in-Some.block ∷ [] =
     c.in_ok-push.ensures.items ∙ ap (λ (b : LabelledBlock). c.loop-block.blocks.items ++ b ∷ []) c.labelled.ensures in
     record {
-      heap = c.in-Some.ensures.looks.heap ∙ same;
-      same = (c.in-Some.ensures.same.0 ∙ c.loop-block.invariant.same.0, c.in-Some.ensures.same.1 ∙ c.loop-block.invariant.same.1);
+      left = record { heap = c.in-Some.ensures.looks.heap ∙ same; same = (c.in-Some.ensures.rest.same.0 ∙ c.loop-block.invariant.left.same.0, c.in-Some.ensures.rest.same.1 ∙ c.loop-block.invariant.left.same.1) };
       walked = subst (HasWalked label h.blocks (c.loop-block.at + c.in-Some.block.size)) (sym items) goes.walked;
     }
 
 pub returns-clause-blocks : goal.returns-clause-blocks
 returns-clause-blocks g c =
     let h = heap_of c.args.worker.now in
-    let same = c.loop-block.invariant.heap in
+    let same = c.loop-block.invariant.left.heap in
     let lawful : IsLawful h = subst IsLawful same c.block_at.ensures.was_lawful in
     let none : placed_at h.blocks c.loop-block.at ≡ None = ap (λ (x : HeapState). placed_at x.blocks c.loop-block.at) (sym same) ∙ (sym c.block_at.ensures.looks.answer_is ∙ c.in_default.is) in
     walk_ends (labelled (known_in c.args.labels.now)) h.blocks c.loop-block.at c.loop-block.blocks.items lawful.rooms c.loop-block.invariant.walked none

@@ -2,7 +2,7 @@ use Rattle.tlsf_picture.proofs.Common.{◌≡◌, ◌+◌, ◌<◌, List, length
 use Rattle.std.proofs.Math.ListN.{get_or-map}
 use Rattle.std.proofs.Math.Seq.{map-set_same}
 use Rattle.std.proofs.lemmas.Option.{slice_get-get_or}
-use Rattle.tlsf_picture.proofs.Yards.{same_yard, yard_stays}
+use Rattle.tlsf_picture.proofs.Yards.{heap_left}
 use Rattle.tlsf_picture.proofs.Maps.{map_more}
 use Rattle.tlsf_picture.proofs.mapping.map_heaps.Goals as goal
 
@@ -36,42 +36,23 @@ loop-number-preserved g c =
     let was = get_or ws i found in
     let is = slice_get-get_or ws i found (omega (arith, c.loop-number-test.true)) in
     record {
-      yard = yard_stays ws i was c.map_heap.new.worker is c.map_heap.ensures.same c.map_heap.ensures.heap inv.yard;
-      world = same_yard ws i was c.map_heap.new.worker is c.map_heap.ensures.same c.map_heap.ensures.heap ∙ inv.world;
-      heaps = map-set_same heap_of ws i c.map_heap.new.worker found c.map_heap.ensures.heap ∙ inv.heaps;
+      shows = heap_left _ ws i was c.map_heap.new.worker inv.shows is c.map_heap.ensures.left;
+      heaps = map-set_same heap_of ws i c.map_heap.new.worker found c.map_heap.ensures.left.heap ∙ inv.heaps;
       so_far = subst (AreMaps g.row.SLI c.args.made.now c.args.labels.now (take (i + 1) heaps)) (sym c.in_ok-push.ensures.items)
           (map_more g.row.SLI c.args.made.now c.args.labels.now heaps i no_heap (heap_of (get_or ws i found)) c.loop-number.maps.items _ c.in_ok-map_heap.field-0
           within here id c.in_ok-known.ensures c.in_ok-map_heap.ensures.mapped inv.so_far);
     }
 
-pub returns-in_err-map_heap-clause-yard : goal.returns-in_err-map_heap-clause-yard
-returns-in_err-map_heap-clause-yard g c =
+pub returns-in_err-map_heap-clause-shows : goal.returns-in_err-map_heap-clause-shows
+returns-in_err-map_heap-clause-shows g c =
     let ws = c.loop-number.workers in
     let i = c.loop-number.number in
-    let was = get_or ws i c.index-workers-number.result in
     let is = slice_get-get_or ws i c.index-workers-number.result (omega (arith, c.loop-number-test.true)) in
-    yard_stays ws i was c.map_heap.new.worker is c.map_heap.ensures.same c.map_heap.ensures.heap c.loop-number.invariant.yard
+    heap_left _ ws i _ c.map_heap.new.worker c.loop-number.invariant.shows is c.map_heap.ensures.left
 
-pub returns-in_err-map_heap-clause-world : goal.returns-in_err-map_heap-clause-world
-returns-in_err-map_heap-clause-world g c =
+pub returns-in_err-push-clause-shows : goal.returns-in_err-push-clause-shows
+returns-in_err-push-clause-shows g c =
     let ws = c.loop-number.workers in
     let i = c.loop-number.number in
-    let was = get_or ws i c.index-workers-number.result in
     let is = slice_get-get_or ws i c.index-workers-number.result (omega (arith, c.loop-number-test.true)) in
-    same_yard ws i was c.map_heap.new.worker is c.map_heap.ensures.same c.map_heap.ensures.heap ∙ c.loop-number.invariant.world
-
-pub returns-in_err-push-clause-yard : goal.returns-in_err-push-clause-yard
-returns-in_err-push-clause-yard g c =
-    let ws = c.loop-number.workers in
-    let i = c.loop-number.number in
-    let was = get_or ws i c.index-workers-number.result in
-    let is = slice_get-get_or ws i c.index-workers-number.result (omega (arith, c.loop-number-test.true)) in
-    yard_stays ws i was c.map_heap.new.worker is c.map_heap.ensures.same c.map_heap.ensures.heap c.loop-number.invariant.yard
-
-pub returns-in_err-push-clause-world : goal.returns-in_err-push-clause-world
-returns-in_err-push-clause-world g c =
-    let ws = c.loop-number.workers in
-    let i = c.loop-number.number in
-    let was = get_or ws i c.index-workers-number.result in
-    let is = slice_get-get_or ws i c.index-workers-number.result (omega (arith, c.loop-number-test.true)) in
-    same_yard ws i was c.map_heap.new.worker is c.map_heap.ensures.same c.map_heap.ensures.heap ∙ c.loop-number.invariant.world
+    heap_left _ ws i _ c.map_heap.new.worker c.loop-number.invariant.shows is c.map_heap.ensures.left

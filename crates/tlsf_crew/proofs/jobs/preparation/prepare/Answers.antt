@@ -5,9 +5,9 @@ use Rattle.tlsf_crew.proofs.jobs.preparation.prepare.Goals as goal
 
 pub loop-worker-init : goal.loop-worker-init
 loop-worker-init g c = record {
-  same = c.requires.count;
+  same = c.requires.scripts.count;
   yard = c.requires.yard;
-  short = c.requires.short;
+  short = c.requires.scripts.short;
   workers = rw c.in_ok-jobs.ensures.items (append-nil c.args.workers.items);
   scripts = rw c.in_ok-jobs.ensures.items (append-nil c.args.scripts.items);
   ready = rw c.in_ok-jobs.ensures.items (λ k d lt. absurd (omega arith));

@@ -9,20 +9,20 @@ returns g c = record {
 }
 
 pub prepare-requires : goal.prepare-requires
-prepare-requires g c = (omega arith, (omega arith, (c.requires.yard, (c.requires.count, c.requires.short))))
+prepare-requires g c = (omega arith, (omega arith, (c.requires.yard, c.requires.scripts)))
 
 pub add_all-requires : goal.add_all-requires
 add_all-requires g c =
     (omega arith, (omega arith, ((c.in_ok-returned.ensures.items, c.in_ok-records.ensures.items), (omega (arith, c.in_ok-done.ensures.len, c.len.ensures, c.in_ok-returned.ensures.capacity), omega (arith, c.in_ok-done.ensures.len, c.len-2.ensures, c.in_ok-records.ensures.capacity)))))
 
 pub count_all-releases-requires-clause-short : goal.count_all-releases-requires-clause-short
-count_all-releases-requires-clause-short g c = rw c.deref.ensures.value c.requires.short
+count_all-releases-requires-clause-short g c = rw c.deref.ensures.value c.requires.scripts.short
 
 pub count_all-releases-requires-clause-few : goal.count_all-releases-requires-clause-few
 count_all-releases-requires-clause-few g c =
     let l = c.args.workers.ok in
     let m = c.args.scripts.ok in
-    rw c.deref.ensures.value (omega (arith, c.requires.few, c.requires.count))
+    rw c.deref.ensures.value (omega (arith, c.requires.few, c.requires.scripts.count))
 
 pub run_all-requires-clause-ready : goal.run_all-requires-clause-ready
 run_all-requires-clause-ready g c κs within = λ k d lt. (c.in_ok-jobs.ensures.ready k d lt).ready

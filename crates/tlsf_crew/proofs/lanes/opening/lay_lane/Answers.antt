@@ -6,15 +6,15 @@ pub returns : goal.returns
 returns g c =
     let us = set c.args.workers.now c.args.i c.set_post_end.new.worker in
     let n = length-set c.args.workers.now c.args.i c.set_post_end.new.worker in
-    let j_in : c.args.j < length us = omega (arith, c.requires.inside.1) in
+    let j_in : c.args.j < length us = omega (arith, c.requires.two.inside.1) in
     let e = c.in_ok-post.ensures in
     lane_laid c.args.workers.now _ _ _ _ _ _ _ c.requires.laid (record {
-      near = (c.requires.inside.0, c.requires.inside.1, c.requires.apart);
+      near = (c.requires.two.inside.0, c.requires.two.inside.1, c.requires.two.apart);
       poster = get_or c.args.workers.now c.args.i c.index-workers-i.result;
       taker = get_or us c.args.j c.index-workers-j.result;
       post = c.in_ok-post.post;
       take = c.in_ok-post.take;
-      poster_is = slice_get-get_or c.args.workers.now c.args.i c.index-workers-i.result c.requires.inside.0;
+      poster_is = slice_get-get_or c.args.workers.now c.args.i c.index-workers-i.result c.requires.two.inside.0;
       posts = c.set_post_end.ensures.posts;
       poster_same = c.set_post_end.ensures.same;
       taker_is = slice_get-get_or us c.args.j c.index-workers-j.result j_in;
@@ -31,8 +31,8 @@ set_post_end-requires g c = (
   omega arith,
   let ws = c.args.workers.now in
       let a : Worker g.row.SLI Lanes = get_or ws c.args.i c.index-workers-i.result in
-      let s = c.requires.laid.slots c.args.i a (slice_get-get_or ws c.args.i c.index-workers-i.result c.requires.inside.0) in
-      omega (arith, a.ports.posts.ok, s.0, c.requires.inside.1),
+      let s = c.requires.laid.slots c.args.i a (slice_get-get_or ws c.args.i c.index-workers-i.result c.requires.two.inside.0) in
+      omega (arith, a.ports.posts.ok, s.0, c.requires.two.inside.1),
 )
 
 pub set_take_end-requires : goal.set_take_end-requires
@@ -41,6 +41,6 @@ set_take_end-requires g c = (
   let ws = c.args.workers.now in
       let d = c.index-workers-j.result in
       let a : Worker g.row.SLI Lanes = get_or ws c.args.j d in
-      let s = c.requires.laid.slots c.args.j a (slice_get-get_or ws c.args.j d c.requires.inside.1) in
-      rw (get_or-set_other ws c.args.i c.args.j c.set_post_end.new.worker d (λ e. c.requires.apart (sym e))) (omega (arith, a.ports.takes.ok, s.1, c.requires.inside.0)),
+      let s = c.requires.laid.slots c.args.j a (slice_get-get_or ws c.args.j d c.requires.two.inside.1) in
+      rw (get_or-set_other ws c.args.i c.args.j c.set_post_end.new.worker d (λ e. c.requires.two.apart (sym e))) (omega (arith, a.ports.takes.ok, s.1, c.requires.two.inside.0)),
 )

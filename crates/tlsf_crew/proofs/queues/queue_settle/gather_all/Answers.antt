@@ -16,7 +16,7 @@ gather_end-requires g c = (
         let a : Worker g.row.SLI Queues = get_or c.loop-i.workers c.loop-i.i c.index-workers-i.result in
         let le : c.loop-i.i ≤ c.loop-i.i = omega arith in
         let at : slice_get c.args.workers.now c.loop-i.i ≡ Some a = sym (whole.same c.loop-i.i (inl le)) ∙ slice_get-get_or c.loop-i.workers c.loop-i.i c.index-workers-i.result inside in
-        omega (arith, a.ports.posts.ok, slot_there c.args.workers.now c.loop-i.i c.args.j a c.requires.yard at c.requires.inside c.if-i-j.true),
+        omega (arith, a.ports.posts.ok, slot_there c.args.workers.now c.loop-i.i c.args.j a c.requires.has.yard at c.requires.has.inside c.if-i-j.true),
     omega (arith, c.loop-i.invariant.few, c.loop-i.invariant.capacity, c.requires.room.1),
   ),
 )
@@ -35,9 +35,9 @@ loop-i-preserved g c =
             capacity = rw w.posters-is (e.capacity ∙ i.capacity);
           }
       | else-i-j w ↦
-          let b = some_at c.args.workers.now c.args.j c.requires.inside in
+          let b = some_at c.args.workers.now c.args.j c.requires.has.inside in
           record {
-            gathered = rw (w.workers-is, w.posters-is) (gathered_own _ _ _ _ _ i.gathered w.if-i-j.false (own_end c.args.workers.now c.args.j b.0 c.requires.yard b.1));
+            gathered = rw (w.workers-is, w.posters-is) (gathered_own _ _ _ _ _ i.gathered w.if-i-j.false (own_end c.args.workers.now c.args.j b.0 c.requires.has.yard b.1));
             few = rw w.posters-is (omega (arith, i.few));
             capacity = rw w.posters-is i.capacity;
           }

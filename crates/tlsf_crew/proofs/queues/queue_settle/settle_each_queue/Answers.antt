@@ -9,11 +9,8 @@ pub settle_one_queue-requires : goal.settle_one_queue-requires
 settle_one_queue-requires g c = (
   omega arith,
   (
-    c.loop-j.invariant.settled.yard,
-    (
-      omega (arith, c.loop-j.invariant.settled.count),
-      omega (arith, c.loop-j.invariant.settled.count, c.loop-j.invariant.capacity, c.requires.room),
-    ),
+    record { yard = c.loop-j.invariant.settled.yard; inside = omega (arith, c.loop-j.invariant.settled.count) },
+    omega (arith, c.loop-j.invariant.settled.count, c.loop-j.invariant.capacity, c.requires.room),
   ),
 )
 

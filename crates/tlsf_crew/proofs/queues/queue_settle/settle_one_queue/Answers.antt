@@ -7,7 +7,7 @@ owner_beside-requires g c = (
   omega arith,
   let whole = c.gather_all.ensures.gathered in
       let b : Worker g.row.SLI Queues = get_or c.gather_all.new.workers c.args.j c.index-workers-j.result in
-      subst (IsWhole b.ports.own) (sym whole.ends) (ends_whole c.args.workers.now c.args.j b c.requires.yard (owner_there _ _ _ _ c.index-workers-j.result whole c.requires.inside)),
+      subst (IsWhole b.ports.own) (sym whole.ends) (ends_whole c.args.workers.now c.args.j b c.requires.has.yard (owner_there _ _ _ _ c.index-workers-j.result whole c.requires.has.inside)),
 )
 
 pub give_ends-requires : goal.give_ends-requires
@@ -16,12 +16,12 @@ give_ends-requires g c = (
   (
     omega arith,
     (
-      slots_still c.args.workers.now c.gather_all.new.workers c.args.j c.owner_beside.new.worker _ c.requires.yard c.requires.inside c.gather_all.ensures.gathered,
+      slots_still c.args.workers.now c.gather_all.new.workers c.args.j c.owner_beside.new.worker _ c.requires.has.yard c.requires.has.inside c.gather_all.ensures.gathered,
       let us = c.gather_all.new.workers in
           let whole = c.gather_all.ensures.gathered in
           let b : Worker g.row.SLI Queues = get_or us c.args.j c.index-workers-j.result in
           let len = sym (length-set us c.args.j c.owner_beside.new.worker ∙ whole.count) in
-          numbers_still c.args.workers.now c.args.j b c.owner_beside.new.worker _ _ c.requires.yard (owner_there _ _ _ _ c.index-workers-j.result whole c.requires.inside) c.owner_beside.ensures.beside ∙ (λ t. below_but c.args.j (len t)),
+          numbers_still c.args.workers.now c.args.j b c.owner_beside.new.worker _ _ c.requires.has.yard (owner_there _ _ _ _ c.index-workers-j.result whole c.requires.has.inside) c.owner_beside.ensures.beside ∙ (λ t. below_but c.args.j (len t)),
     ),
   ),
 )
@@ -35,8 +35,8 @@ returns-clause-settled g c =
     let b : Worker g.row.SLI Queues = get_or us c.args.j c.index-workers-j.result in
     let len = length-set us c.args.j w ∙ whole.count in
     queue_settled c.args.workers.now us c.args.j b w c.gather_all.new.posters.items qs c.give_ends.new.workers (record {
-      yard = c.requires.yard;
-      owner = owner_there _ _ _ _ c.index-workers-j.result whole c.requires.inside;
+      yard = c.requires.has.yard;
+      owner = owner_there _ _ _ _ c.index-workers-j.result whole c.requires.has.inside;
       gathered = whole;
       beside = c.owner_beside.ensures.beside;
       same = c.owner_beside.ensures.same;

@@ -17,8 +17,8 @@ drain_one-requires g c = (
     let d = c.index-records-j.result in
         let le : c.loop-j.j ≤ c.loop-j.j = omega arith in
         let here = slice_get-get_or c.loop-j.records c.loop-j.j d (omega arith) in
-        let there = slice_get-get_or c.args.records.now c.loop-j.j d (omega (arith, c.requires.count)) in
-        subst HasPlace (some_same (get_or c.args.records.now c.loop-j.j d) (get_or c.loop-j.records c.loop-j.j d) (sym there ∙ (sym (c.loop-j.invariant.later c.loop-j.j le) ∙ here))) (c.requires.places c.loop-j.j d (omega (arith, c.requires.count))),
+        let there = slice_get-get_or c.args.records.now c.loop-j.j d (omega (arith, c.requires.records.count)) in
+        subst HasPlace (some_same (get_or c.args.records.now c.loop-j.j d) (get_or c.loop-j.records c.loop-j.j d) (sym there ∙ (sym (c.loop-j.invariant.later c.loop-j.j le) ∙ here))) (c.requires.records.places c.loop-j.j d (omega (arith, c.requires.records.count))),
   ),
 )
 
@@ -34,10 +34,10 @@ loop-j-preserved g c =
     let i = c.loop-j.invariant in
     let le : c.loop-j.j ≤ c.loop-j.j = omega arith in
     let at = slice_get-get_or c.loop-j.workers c.loop-j.j c.index-workers-j.result (omega (arith, i.drained.worker_count)) in
-    let here = slice_get-get_or c.loop-j.records c.loop-j.j c.index-records-j.result (omega (arith, c.requires.count)) in
+    let here = slice_get-get_or c.loop-j.records c.loop-j.j c.index-records-j.result (omega (arith, c.requires.records.count)) in
     record {
       drained = queue_drain_next c.args.workers.now c.loop-j.workers c.args.records.now c.loop-j.records c.loop-j.j _ c.drain_one.new.worker _ c.drain_one.new.entries i.drained at here (sym (i.later c.loop-j.j le) ∙ here)
           c.drain_one.ensures.drained;
-      rooms = keeps_set c.args.records.now c.loop-j.records c.loop-j.j _ c.drain_one.new.entries i.rooms (omega (arith, c.requires.count)) here c.drain_one.ensures.capacity;
+      rooms = keeps_set c.args.records.now c.loop-j.records c.loop-j.j _ c.drain_one.new.entries i.rooms (omega (arith, c.requires.records.count)) here c.drain_one.ensures.capacity;
       later = λ k after. get_set_other c.loop-j.records c.loop-j.j k c.drain_one.new.entries (λ e. omega arith) ∙ i.later k (omega arith);
     }

@@ -27,12 +27,12 @@ push_reserved-requires g c =
     let k = c.resume-journal.result.entries.ok in
     let l = c.drain_source-drained.new.notes.entries.ok in
     let sum = ap sum_of c.resume-journal.ensures.journal.0 in
-    omega (arith, sum, few, most, c.drain_source-drained.ensures.kept, c.capacity.ensures, c.len.ensures)
+    omega (arith, sum, few, most, c.drain_source-drained.ensures.bounds.notes.kept, c.capacity.ensures, c.len.ensures)
 
 pub returns-clause-capacity : goal.returns-clause-capacity
 returns-clause-capacity g c =
     let same = ap (λ (v : Vec Entry Global). vec_capacity v) c.resume-journal.ensures.journal.1 in
-    c.push_reserved.ensures.capacity ∙ (c.drain_source-drained.ensures.kept ∙ same)
+    c.push_reserved.ensures.capacity ∙ (c.drain_source-drained.ensures.bounds.notes.kept ∙ same)
 
 pub returns-clause-drained : goal.returns-clause-drained
 returns-clause-drained g c = λ n k.

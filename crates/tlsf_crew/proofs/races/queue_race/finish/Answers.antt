@@ -8,7 +8,7 @@ drain_all-requires g c = (
   omega arith,
   (
     each_knows_some c.settle_each_queue.new.workers c.settle_each_queue.ensures.settled.yard,
-    (omega (arith, c.requires.count, c.settle_each_queue.ensures.settled.count), omega arith),
+    record { count = omega (arith, c.requires.records.count, c.settle_each_queue.ensures.settled.count); places = c.requires.records.places },
   ),
 )
 

@@ -22,7 +22,7 @@ finish-requires g c =
       omega arith,
       (
         ran_yard ws scripts _ out.workers.items settled.yard (queues_ran ws out.workers.items scripts out.records.items ran),
-        (records ∙ sym count, (queue_places ws out.workers.items scripts out.records.items settled.yard ran, rw count room)),
+        (record { count = records ∙ sym count; places = queue_places ws out.workers.items scripts out.records.items settled.yard ran }, rw count room),
       ),
     )
 
@@ -59,4 +59,4 @@ run_scripts-requires-after_bounds g c κs within =
     let settled = c.settle_each_queue.ensures.settled in
     let yard = settled.yard in
     let first = written_back c.args.workers.len ws c.args.workers.items (omega (arith, settled.count, c.deref_mut.ensures.len)) in
-    (omega arith, (omega arith, (omega arith, (rw first (each_knows_some ws yard), (rw first yard.few, (c.requires.count, c.requires.short))))))
+    (omega arith, (omega arith, (omega arith, (rw first (each_knows_some ws yard), (rw first yard.few, c.requires.scripts)))))

@@ -8,17 +8,14 @@ pub drain_one-requires : goal.drain_one-requires
 drain_one-requires g c = (
   omega arith,
   (
-    c.loop-j.invariant.last.yard,
+    record { yard = c.loop-j.invariant.last.yard; inside = omega (arith, c.loop-j.invariant.last.worker_count) },
     (
-      omega (arith, c.loop-j.invariant.last.worker_count),
-      (
-        λ i. rw (c.loop-j.invariant.last.later_waits i c.loop-j.j (omega arith)) (c.requires.few c.loop-j.j i),
-        let r = c.index-records-j.result in
-            let j = c.loop-j.j in
-            let here : slice_get c.loop-j.records j ≡ Some r = slice_get-get_or c.loop-j.records j r (omega arith) ∙ ap Some (sym c.index-records-j.is) in
-            let there : slice_get c.args.records.now j ≡ Some r = sym (c.loop-j.invariant.later j (omega arith)) ∙ here in
-            rw (sym c.index-records-j.is) (room_next _ _ _ _ j r c.loop-j.invariant.last (c.requires.room j r there)),
-      ),
+      λ i. rw (c.loop-j.invariant.last.later_waits i c.loop-j.j (omega arith)) (c.requires.few c.loop-j.j i),
+      let r = c.index-records-j.result in
+          let j = c.loop-j.j in
+          let here : slice_get c.loop-j.records j ≡ Some r = slice_get-get_or c.loop-j.records j r (omega arith) ∙ ap Some (sym c.index-records-j.is) in
+          let there : slice_get c.args.records.now j ≡ Some r = sym (c.loop-j.invariant.later j (omega arith)) ∙ here in
+          rw (sym c.index-records-j.is) (room_next _ _ _ _ j r c.loop-j.invariant.last (c.requires.room j r there)),
     ),
   ),
 )

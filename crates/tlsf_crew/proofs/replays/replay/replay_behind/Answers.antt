@@ -12,8 +12,8 @@ run_event-requires g c =
     let i = c.loop-event.event-index in
     let now = c.loop-event.invariant in
     let s = c.settle.ensures in
-    let ready = all_ready c.args.workers.now c.settle.new.workers s.count s.settled s.yard in
-    let same = ap waiting_count s.world in
+    let ready = all_ready c.args.workers.now c.settle.new.workers s.keeps.count s.settled s.keeps.yard in
+    let same = ap waiting_count s.keeps.world in
     let d0 : Event = record { worker = 0; call = Allocate 0 } in
     let e : Event = get_or c.args.events.now i d0 in (
       omega arith,
@@ -41,8 +41,8 @@ returns g c =
     let made = c.args.made.now.items in
     let now = c.loop-event.invariant in
     let s = c.settle.ensures in
-    let ready = all_ready c.args.workers.now c.settle.new.workers s.count s.settled s.yard in
-    let same = ap waiting_count s.world in
+    let ready = all_ready c.args.workers.now c.settle.new.workers s.keeps.count s.settled s.keeps.yard in
+    let same = ap waiting_count s.keeps.world in
     let all = take_all c.loop-event.event-index c.args.events.now (omega arith) in
     let e = now.replayed ∙ (ap (fold after (resumed w made)) all ∙ sym (replies_behind_is w made c.args.events.now)) in
     record {
@@ -77,11 +77,11 @@ loop-event-preserved g c =
 
 pub loop-event-init : goal.loop-event-init
 loop-event-init g c = record {
-  yard = c.settle.ensures.yard;
-  count = c.settle.ensures.count;
+  yard = c.settle.ensures.keeps.yard;
+  count = c.settle.ensures.keeps.count;
   made = omega (arith, c.reserve.ensures.len);
   made_room = omega (arith, c.reserve.ensures.len, c.in_ok-reserve.ensures.ok);
   room = c.in_ok-with_capacity.ensures.exact;
-  others = λ x none. shown_same c.args.workers.now c.settle.new.workers x c.settle.ensures.heaps;
-  replayed = rw (c.reserve.ensures.items, c.in_ok-with_capacity.ensures.items) (ap (λ w. resumed w c.args.made.now.items) c.settle.ensures.world);
+  others = λ x none. shown_same c.args.workers.now c.settle.new.workers x c.settle.ensures.keeps.heaps;
+  replayed = rw (c.reserve.ensures.items, c.in_ok-with_capacity.ensures.items) (ap (λ w. resumed w c.args.made.now.items) c.settle.ensures.keeps.world);
 }

@@ -8,7 +8,7 @@ use Rattle.tlsf_crew.proofs.replays.replay.reply_in_yard.Goals as goal
 pub reply_to-reply-requires : goal.reply_to-reply-requires
 reply_to-reply-requires g c =
     let e = c.settle_for-journal.ensures in
-    let r = limit_room c.args.workers.now c.settle_for-journal.new.workers c.args.event.now c.settle_for-journal.result e.limits e.world in
+    let r = limit_room c.args.workers.now c.settle_for-journal.new.workers c.args.event.now c.settle_for-journal.result e.limits e.keeps.world in
     let room = c.requires.room in
     (omega arith, omega arith)
 
@@ -16,12 +16,12 @@ run_of : (g : Over) (c : goal.After-workers-2-1 g) (made : List (Option Name)) �
 run_of g c made known =
     let vs = c.settle_for-journal.new.workers in
     let e = c.settle_for-journal.ensures in
-    let n = e.count in
-    let p = c.requires.inside in
+    let n = e.keeps.count in
+    let p = c.requires.has.inside in
     let lt : c.args.event.now.worker < length vs = omega arith in
     let a : Worker g.row.SLI Lanes = get_or vs c.args.event.now.worker c.index-workers-event.result in
     let is : slice_get vs c.args.event.now.worker ≡ Some a = slice_get-get_or vs c.args.event.now.worker c.index-workers-event.result lt in
-    let own : id_of a ≡ c.args.event.now.worker = own_number vs c.args.event.now.worker a e.yard is in
+    let own : id_of a ≡ c.args.event.now.worker = own_number vs c.args.event.now.worker a e.keeps.yard is in
     record {
       vs = vs;
       a = a;
@@ -33,31 +33,31 @@ run_of g c made known =
       left = c.reply_to-reply.new.journal.limits;
       call = c.args.event.now.call;
       reply = c.reply_to-reply.result;
-      yard = e.yard;
+      yard = e.keeps.yard;
       is = ap (slice_get vs) own ∙ is;
-      knows = each_knows (length vs) vs refl e.yard c.args.event.now.worker c.index-workers-event.result lt;
-      step = c.reply_to-reply.ensures.stepped (length vs) made known (each_knows (length vs) vs refl e.yard c.args.event.now.worker c.index-workers-event.result lt);
+      knows = each_knows (length vs) vs refl e.keeps.yard c.args.event.now.worker c.index-workers-event.result lt;
+      step = c.reply_to-reply.ensures.stepped (length vs) made known (each_knows (length vs) vs refl e.keeps.yard c.args.event.now.worker c.index-workers-event.result lt);
     }
 
 pub settle_for-requires : goal.settle_for-requires
 settle_for-requires g c = (
   omega arith,
-  (
-    let vs = c.settle_for-journal.new.workers in
+  record {
+    yard = let vs = c.settle_for-journal.new.workers in
         let e = c.settle_for-journal.ensures in
-        let n = e.count in
-        let p = c.requires.inside in
+        let n = e.keeps.count in
+        let p = c.requires.has.inside in
         let lt : c.args.event.now.worker < length vs = omega arith in
         let a : Worker g.row.SLI Lanes = get_or vs c.args.event.now.worker c.index-workers-event.result in
         let is : slice_get vs c.args.event.now.worker ≡ Some a = slice_get-get_or vs c.args.event.now.worker c.index-workers-event.result lt in
-        let step = c.reply_to-reply.ensures.stepped (length vs) c.requires.meant.0 c.requires.meant.1 (each_knows (length vs) vs refl e.yard c.args.event.now.worker c.index-workers-event.result lt) in
+        let step = c.reply_to-reply.ensures.stepped (length vs) c.requires.meant.0 c.requires.meant.1 (each_knows (length vs) vs refl e.keeps.yard c.args.event.now.worker c.index-workers-event.result lt) in
         let m = step.step.moved [] in
-        m.yard vs c.args.event.now.worker is e.yard,
-    let vs = c.settle_for-journal.new.workers in
-        let n = c.settle_for-journal.ensures.count in
-        let p = c.requires.inside in
-        omega (arith, length-set vs c.args.event.now.worker c.reply_to-reply.new.worker),
-  ),
+        m.yard vs c.args.event.now.worker is e.keeps.yard;
+    inside = let vs = c.settle_for-journal.new.workers in
+        let n = c.settle_for-journal.ensures.keeps.count in
+        let p = c.requires.has.inside in
+        omega (arith, length-set vs c.args.event.now.worker c.reply_to-reply.new.worker);
+  },
 )
 
 pub returns-clause-replied : goal.returns-clause-replied
@@ -66,16 +66,16 @@ returns-clause-replied g c = λ made known.
     let vs = c.settle_for-journal.new.workers in
     let e = c.settle_for-journal.ensures in
     let f = c.settle_for.ensures in
-    let n = e.count in
-    let p = c.requires.inside in
+    let n = e.keeps.count in
+    let p = c.requires.has.inside in
     let lt : c.args.event.now.worker < length vs = omega arith in
     let a : Worker g.row.SLI Lanes = get_or vs c.args.event.now.worker c.index-workers-event.result in
     let is : slice_get vs c.args.event.now.worker ≡ Some a = slice_get-get_or vs c.args.event.now.worker c.index-workers-event.result lt in
-    let own : id_of a ≡ c.args.event.now.worker = own_number vs c.args.event.now.worker a e.yard is in
-    let s = settles (run_of g c made known) c.args.workers.now c.settle_for.new.workers c.args.event.now.worker own e.count (e.settled made known) (f.settled made known) (λ may i t near q. e.limits.all may i t near q) f.yard f.count f.world in
-    replied (run_of g c made known) c.args.workers.now c.settle_for.new.workers c.args.event.now s e.world (sym own) refl
+    let own : id_of a ≡ c.args.event.now.worker = own_number vs c.args.event.now.worker a e.keeps.yard is in
+    let s = settles (run_of g c made known) c.args.workers.now c.settle_for.new.workers c.args.event.now.worker own e.keeps.count (e.settled made known) (f.settled made known) (λ may i t near q. e.limits.all may i t near q) f.keeps.yard f.keeps.count f.keeps.world in
+    replied (run_of g c made known) c.args.workers.now c.settle_for.new.workers c.args.event.now s e.keeps.world (sym own) refl
 
 pub returns-clause-others : goal.returns-clause-others
 returns-clause-others g c = λ x ne.
-    shown_same _ _ x c.settle_for.ensures.heaps
-    ∙ (shown_other c.settle_for-journal.new.workers c.args.event.now.worker x c.reply_to-reply.new.worker ne ∙ shown_same c.args.workers.now _ x c.settle_for-journal.ensures.heaps)
+    shown_same _ _ x c.settle_for.ensures.keeps.heaps
+    ∙ (shown_other c.settle_for-journal.new.workers c.args.event.now.worker x c.reply_to-reply.new.worker ne ∙ shown_same c.args.workers.now _ x c.settle_for-journal.ensures.keeps.heaps)

@@ -25,10 +25,10 @@ returns-in-Take-clause-limits g c =
     let vs = c.settle_column.new.workers in
     let a = c.index-workers-at.result in
     let at = c.args.event.now.worker in
-    let n = c.settle_column.ensures.count in
+    let n = c.settle_column.ensures.keeps.count in
     let p = c.requires.inside in
     let is : slice_get vs at ≡ Some a = slice_get-get_or vs at a (omega arith) ∙ ap Some (sym c.index-workers-at.is) in
-    limits_are c.args.workers.now vs c.args.event.now c.limits.result a c.settle_column.ensures.yard c.settle_column.ensures.count is c.settle_column.ensures.settled.done
+    limits_are c.args.workers.now vs c.args.event.now c.limits.result a c.settle_column.ensures.keeps.yard c.settle_column.ensures.keeps.count is c.settle_column.ensures.settled.done
     (λ i lt. let none : slice_index (replicate 8 0) i ≡ 0 = get_or-replicate 8 i 0 0 lt in let l = (rw (sym c.index-workers-at.is) at c.limits.ensures.limited) g.row.SLI i lt in omega (arith, l, none))
 
 pub returns-in-Release-clause-limits : goal.returns-in-Release-clause-limits

@@ -8,7 +8,7 @@ returns-in-Allocate-clause-stepped g c = λ n made known k.
     let e = c.reply_to_own_allocate.ensures in
     rw c.in-Allocate.is
     (c.laws.ensures.quiet g.row.SLI n _ _ c.args.journal.now.limits _ _ _ _ k e.yard
-    (allocate_call n c.args.worker.now c.reply_to_own_allocate.new.worker c.in-Allocate.len made c.args.journal.now.entries.items c.reply_to_own_allocate.result e.same e.replied))
+    (allocate_call n c.args.worker.now c.reply_to_own_allocate.new.worker c.in-Allocate.len made c.args.journal.now.entries.items c.reply_to_own_allocate.result e.own.same e.own.replied))
 
 pub returns-in-Write-clause-stepped : goal.returns-in-Write-clause-stepped
 returns-in-Write-clause-stepped g c = λ n made known k.

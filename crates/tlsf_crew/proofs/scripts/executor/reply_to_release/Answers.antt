@@ -14,9 +14,8 @@ returns g c = λ n limits target made entries known k.
     let a = c.args.worker.now in
     let v = c.release.new.worker in
     let meant = known ∙ c.in-Some.is in
-    let e = c.release.ensures in
     rw c.as_reply.ensures
     (release_by n g.P.Ports.reaches g.P.Exchange.puts a v target c.in-Some.name made entries c.release.result (λ u reply. g.P.Scripted.steps g.row.SLI n (at_stage a limits entries) (Release target) made (at_stage u limits entries) reply) meant
-    (record { here = e.here; there = e.there; nowhere = e.nowhere }) (c.laws.ensures.reached g.row.SLI n a c.in-Some.name.heap k)
+    c.release.ensures.releases (c.laws.ensures.reached g.row.SLI n a c.in-Some.name.heap k)
     (λ u reply kept q. c.laws.ensures.quiet g.row.SLI n a u limits (Release target) made entries reply k (c.heap_keeps.ensures g.row.SLI a u q.same kept) q)
     (λ ne has there. c.laws.ensures.posted g.row.SLI n a v limits target c.in-Some.name made entries c.release.result k meant ne has there))

@@ -1,18 +1,16 @@
-use Rattle.tlsf_crew.proofs.Common.{refl, ◌∙◌, ◌+◌, [], ◌++◌, inl, inr, arith, sym, subst, length, IsCountOf, TakeRules, EachTakeNoted}
+use Rattle.tlsf_crew.proofs.Common.{refl, ◌∙◌, ◌+◌, ◌*◌, [], ◌++◌, inl, inr, arith, sym, subst, length, IsCountOf, TakeRules, EachTakeNoted}
 use Rattle.tlsf_crew.proofs.lemmas.worker.Slices.{slice_noted, noted_then, may_fewer}
 use Rattle.tlsf_crew.proofs.lemmas.worker.SourceTurns.{counted_few, counts_then}
+use Rattle.tlsf_crew.proofs.lemmas.worker.Works.{works_none, works_ports, works_then}
 use Rattle.tlsf_crew.proofs.worker.worker.drain_source.Goals as goal
 
 pub loop-drained-init : goal.loop-drained-init
 loop-drained-init g c = record {
   source = c.requires.source;
-  room = c.requires.room;
-  kept = refl;
+  notes = record { room = c.requires.room; kept = refl };
   takes = ([], (refl, refl), (refl, refl));
   few = omega arith;
-  touches = omega arith;
-  rise = omega arith;
-  stays = (refl, refl);
+  within = works_none _ _ _;
 }
 
 pub loop-drained-preserved : goal.loop-drained-preserved
@@ -31,8 +29,7 @@ loop-drained-preserved g c =
     let counts = counts_then c.loop-drained.drained (record { taken = length c.split_at.result.0.now; freed = c.release_posts-freed.result }) i.takes.0 e.released.0 i.takes.2 e.released.3 in
     record {
       source = subst (λ p. g.P.Ports.hears p c.args.source) (sym e.ports) slice.ensures.still;
-      room = e.room;
-      kept = e.kept ∙ i.kept;
+      notes = record { room = e.notes.room; kept = e.notes.kept ∙ i.notes.kept };
       takes = (
         i.takes.0 ++ e.released.0,
         noted_then by c.args.worker.now a v c.args.notes.now x z c.args.source i.takes.0 e.released.0 i.takes.1
@@ -40,9 +37,7 @@ loop-drained-preserved g c =
         (omega (arith, counts.0, n), counts.1),
       );
       few = omega (arith, c.admits-wanted.ensures.few, c.min.ensures, slice.ensures.most, many);
-      touches = omega (arith, i.touches, e.touches, n);
-      rise = omega (arith, i.rise, e.touches_rise);
-      stays = (e.stays.0 ∙ i.stays.0, e.stays.1 ∙ (slice.ensures.stays ∙ i.stays.1));
+      within = works_then _ _ _ _ _ _ _ (works_then _ _ 0 (64 * c.loop-drained.drained.taken) _ _ _ i.within (works_ports _ _ _ _ slice.ensures.stays) (omega arith)) e.within (omega (arith, n));
     }
 
 pub returns-after-loop-drained : goal.returns-after-loop-drained
@@ -50,13 +45,11 @@ returns-after-loop-drained g c =
     let i = c.loop-drained.invariant in
     record {
       drained = (i.takes.0, record { last = c.loop-drained.worker; turns = i.takes.1; end = inl (omega (arith, i.takes.2.0, i.few), refl) }, i.takes.2);
-      most = i.few;
-      freed = counted_few c.loop-drained.drained i.takes.0 i.takes.2;
-      room = i.room;
-      kept = i.kept;
-      touches = i.touches;
-      touches_rise = i.rise;
-      stays = i.stays;
+      bounds = record {
+        few = record { most = i.few; freed = counted_few c.loop-drained.drained i.takes.0 i.takes.2 };
+        notes = i.notes;
+        within = i.within;
+      };
     }
 
 pub returns-then-wanted-eq0 : goal.returns-then-wanted-eq0
@@ -64,13 +57,11 @@ returns-then-wanted-eq0 g c =
     let i = c.loop-drained.invariant in
     record {
       drained = (i.takes.0, record { last = c.loop-drained.worker; turns = i.takes.1; end = inr (omega (arith, i.takes.2.0), inl (c.admits-wanted.ensures.no c.if-wanted-eq0.true, (refl, refl), c.stop.ensures.stopped)) }, i.takes.2);
-      most = i.few;
-      freed = counted_few c.loop-drained.drained i.takes.0 i.takes.2;
-      room = i.room;
-      kept = i.kept;
-      touches = i.touches;
-      touches_rise = i.rise;
-      stays = (i.stays.0, c.stop.ensures.stays ∙ i.stays.1);
+      bounds = record {
+        few = record { most = i.few; freed = counted_few c.loop-drained.drained i.takes.0 i.takes.2 };
+        notes = i.notes;
+        within = works_then _ _ 0 (64 * c.loop-drained.drained.taken) _ _ _ i.within (works_ports _ _ _ _ c.stop.ensures.stays) (omega arith);
+      };
     }
 
 pub returns-then-came-wanted : goal.returns-then-came-wanted
@@ -98,13 +89,11 @@ returns-then-came-wanted g c =
         },
         count,
       );
-      most = omega (arith, c.if-came-wanted.true, c.admits-wanted.ensures.few, c.min.ensures);
-      freed = counted_few _ (i.takes.0 ++ e.released.0) count;
-      room = e.room;
-      kept = e.kept ∙ i.kept;
-      touches = omega (arith, i.touches, e.touches, n);
-      touches_rise = omega (arith, i.rise, e.touches_rise);
-      stays = (e.stays.0 ∙ i.stays.0, e.stays.1 ∙ (slice.ensures.stays ∙ i.stays.1));
+      bounds = record {
+        few = record { most = omega (arith, c.if-came-wanted.true, c.admits-wanted.ensures.few, c.min.ensures); freed = counted_few _ (i.takes.0 ++ e.released.0) count };
+        notes = record { room = e.notes.room; kept = e.notes.kept ∙ i.notes.kept };
+        within = works_then _ _ _ _ _ _ _ (works_then _ _ 0 (64 * c.loop-drained.drained.taken) _ _ _ i.within (works_ports _ _ _ _ slice.ensures.stays) (omega arith)) e.within (omega (arith, n));
+      };
     }
 
 pub take_slice-came-requires : goal.take_slice-came-requires
@@ -120,6 +109,6 @@ release_posts-freed-requires g c =
       omega arith,
       (
         may_fewer g.N.Notes.admitted g.N.Notes.noted c.loop-drained.notes c.args.source _ _ (omega (arith, n, c.take_slice-came.ensures.most, many)) c.admits-wanted.ensures.yes,
-        (c.loop-drained.invariant.room, omega (arith, n, c.take_slice-came.ensures.most, many, c.admits-wanted.ensures.few, c.min.ensures)),
+        (c.loop-drained.invariant.notes.room, omega (arith, n, c.take_slice-came.ensures.most, many, c.admits-wanted.ensures.few, c.min.ensures)),
       ),
     )

@@ -1,4 +1,4 @@
-use Rattle.std.proofs.Common.{refl, ap, Some}
+use Rattle.std.proofs.Common.{refl, ap, arith, Some}
 use Rattle.tlsf_crew.proofs.worker.worker.release_post.Goals as goal
 
 pub returns-clause-released : goal.returns-clause-released
@@ -6,5 +6,7 @@ returns-clause-released g c =
     let e = c.release-answer.ensures.releases in
     (ap (λ x. Some (record { from = c.args.post.from; name = c.args.post.name; answer = x })) e.answer_is, rw (← e.answer_is) e, (refl, refl))
 
-pub returns-clause-stays : goal.returns-clause-stays
-returns-clause-stays g c = (c.release-answer.ensures.frame.keeps.stays, refl)
+pub returns-clause-within : goal.returns-clause-within
+returns-clause-within g c =
+    let e = c.release-answer.ensures.releases in
+    record { touches = omega (arith, e.touches); touches_rise = e.rise; stays = (c.release-answer.ensures.keeps.stays, refl) }

@@ -1,26 +1,24 @@
 use Rattle.tlsf_crew.proofs.Common.{◌≡◌, ◌≢◌, ◌-◌, ◌+◌, Some, refl, ◌∙◌, [], ◌∷◌, ◌++◌, arith, sym, subst, length, take_all, AfterTake}
 use Rattle.tlsf_crew.proofs.lemmas.worker.Slices.{released_more, may_one, may_next, posts_more}
 use Rattle.tlsf_crew.proofs.lemmas.worker.SourceTurns.{counts_then, one_freed, one_kept}
+use Rattle.tlsf_crew.proofs.lemmas.worker.Works.{works_none, works_then}
 use Rattle.tlsf_crew.proofs.worker.worker.release_posts.Goals as goal
 use Rattle.tlsf_crew.proofs.worker.worker.release_posts.Goals.{then-is_ok, else-is_ok}
 
 pub loop-post-init : goal.loop-post-init
 loop-post-init g c = record {
-  room = c.requires.room;
-  kept = refl;
+  notes = record { room = c.requires.room; kept = refl };
   may = let all : length c.args.posts.now - 0 ≡ length c.args.posts.now = omega arith in rw all c.requires.admitted;
   ports = refl;
   released = ([], (refl, refl), refl, (refl, refl));
-  touches = omega arith;
-  rise = omega arith;
-  stays = (refl, refl);
+  within = works_none _ _ _;
 }
 
 pub note-requires : goal.note-requires
 note-requires g c =
     let i = c.loop-post.invariant in
     let some : length c.args.posts.now - c.loop-post.post-index ≢ 0 = λ none. omega (arith, none, c.loop-post-test.true) in
-    record { admitted = may_one g.N.Notes.admitted g.N.Notes.noted c.loop-post.notes c.args.source _ some i.may; room = i.room }
+    record { admitted = may_one g.N.Notes.admitted g.N.Notes.noted c.loop-post.notes c.args.source _ some i.may; room = i.notes.room }
 
 pub loop-post-preserved : goal.loop-post-preserved
 loop-post-preserved g c =
@@ -31,8 +29,7 @@ loop-post-preserved g c =
     let e = c.release_post-took.ensures in
     let note = c.note.ensures in
     record {
-      room = note.room;
-      kept = note.most ∙ i.kept;
+      notes = record { room = note.room; kept = note.most ∙ i.notes.kept };
       may = may_next g.N.Notes.admitted g.N.Notes.noted c.loop-post.notes c.note.new.self c.args.source (length posts - at) (length posts - (at + 1)) _ _ took (omega (arith, c.loop-post-test.true)) i.may note.noted;
       ports = e.ports ∙ i.ports;
       released = (
@@ -48,9 +45,7 @@ loop-post-preserved g c =
               (n.0, omega (arith, n.1)))
         ],
       );
-      touches = omega (arith, i.touches, e.released.1.touches);
-      rise = omega (arith, i.rise, e.released.1.rise);
-      stays = (e.stays.0 ∙ i.stays.0, e.stays.1 ∙ i.stays.1);
+      within = works_then _ _ 64 _ _ _ _ i.within e.within (omega arith);
     }
 
 pub returns : goal.returns
@@ -65,9 +60,6 @@ returns g c =
         (sym all ∙ i.released.3.0, i.released.3.1),
       );
       ports = i.ports;
-      room = i.room;
-      kept = i.kept;
-      touches = omega (arith, i.touches, all);
-      touches_rise = i.rise;
-      stays = i.stays;
+      notes = i.notes;
+      within = rw (← all) i.within;
     }

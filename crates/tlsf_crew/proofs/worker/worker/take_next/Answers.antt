@@ -1,4 +1,5 @@
-use Rattle.std.proofs.Common.{refl, ◌∙◌, Some, None}
+use Rattle.std.proofs.Common.{refl, arith, Some, None}
+use Rattle.tlsf_crew.proofs.lemmas.worker.Works.{works_ports, works_then}
 use Rattle.tlsf_crew.proofs.worker.worker.take_next.Goals as goal
 
 pub returns-clause-taken : goal.returns-clause-taken
@@ -19,8 +20,8 @@ returns-in_err-post-clause-taken g c =
       then = (c.from_residual.ensures, refl);
     }
 
-pub returns-clause-stays : goal.returns-clause-stays
-returns-clause-stays g c = (c.release_post.ensures.stays.0, c.release_post.ensures.stays.1 ∙ c.in_ok-post.ensures.stays)
+pub returns-clause-within : goal.returns-clause-within
+returns-clause-within g c = works_then _ 0 64 64 _ _ _ (works_ports _ _ _ _ c.in_ok-post.ensures.stays) c.release_post.ensures.within (omega arith)
 
-pub returns-in_err-post-clause-stays : goal.returns-in_err-post-clause-stays
-returns-in_err-post-clause-stays g c = (refl, c.in_err-post.ensures.stays)
+pub returns-in_err-post-clause-within : goal.returns-in_err-post-clause-within
+returns-in_err-post-clause-within g c = works_ports _ _ _ _ c.in_err-post.ensures.stays

@@ -11,7 +11,7 @@ returns-clause-stands g c = λ trace is stands.
     let len : length vs ≡ here.len = omega arith in
     let back = take_at vs (drop (length vs) here.items) here.len len in
     record {
-      world = ap world_of back ∙ ((rw c.deref_mut.ensures.value at c.report_on.ensures.world) ∙ plays.stands.world);
+      world = ap world_of back ∙ ((rw c.deref_mut.ensures.value at c.report_on.ensures.shows.world) ∙ plays.stands.world);
       made = plays.stands.made;
       ran = plays.stands.ran;
     }

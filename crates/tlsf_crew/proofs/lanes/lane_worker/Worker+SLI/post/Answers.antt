@@ -1,6 +1,7 @@
 use Rattle.tlsf_crew.proofs.lemmas.worker.PortsKept.{post_keeps}
+use Rattle.tlsf_crew.proofs.lemmas.worker.Works.{works_kept}
 use Rattle.tlsf_crew.proofs.lemmas.lanes.LaneTurns.{lanes_keep_yards}
 use Rattle.tlsf_crew.proofs.lanes.lane_worker.Worker+SLI.post.Goals as goal
 
-pub returns-clause-yard : goal.returns-clause-yard
-returns-clause-yard g c = post_keeps _ _ _ lanes_keep_yards _ _ c.args.name _ (λ own. (c.post.ensures.own own).1) c.post.ensures.there (λ ne none. (c.post.ensures.nowhere ne none).1)
+pub returns-clause-works : goal.returns-clause-works
+returns-clause-works g c = record { yard = post_keeps _ _ _ lanes_keep_yards _ _ c.args.name _ c.post.ensures.posts; within = works_kept _ _ _ _ c.post.ensures.posts.heap c.post.ensures.stays.1 }
