@@ -9,4 +9,4 @@ returns-clause-released g c =
 pub returns-clause-within : goal.returns-clause-within
 returns-clause-within g c =
     let e = c.release-answer.ensures.releases in
-    record { touches = omega (arith, e.touches); touches_rise = e.rise; stays = (c.release-answer.ensures.keeps.stays, refl) }
+    record { touches = omega (arith, e.touches); touches_rise = e.rise; stays = (c.release-answer.ensures.frame.keeps.stays, refl) }

@@ -3,4 +3,4 @@ use Rattle.tlsf_crew.proofs.lemmas.worker.OwnHeaps.{same_heap_keeps}
 use Rattle.tlsf_crew.proofs.worker.worker.Worker.report.Goals as goal
 
 pub returns-clause-rest : goal.returns-clause-rest
-returns-clause-rest g c = record { same = (refl, refl); yard = c.heap_keeps.ensures g.row.SLI _ _ (refl, refl) (same_heap_keeps _ _ c.report.ensures.same.heap); stays = (c.report.ensures.keeps.stays, refl) }
+returns-clause-rest g c = record { same = (refl, refl); yard = c.heap_keeps.ensures g.row.SLI _ _ (refl, refl) (same_heap_keeps _ _ c.report.ensures.frame.same.heap); stays = (c.report.ensures.frame.keeps.stays, refl) }
