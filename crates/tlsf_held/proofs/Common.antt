@@ -26,7 +26,7 @@ pub use Rattle.tlsf_held.specs.HeldLines.{held_text}
 unfoldable pub use Rattle.tlsf_held.specs.HeldLines.{held_region}
 pub use Rattle.tlsf_held.specs.KindLines.{kinds_text, kinds_line, pairs_text}
 pub use Rattle.tlsf_held.specs.KindTables.{IsLeastRow, IsOfRow, AreRows, KeepWithin, IsTable, kinds_of, lengths_with}
-pub use Rattle.tlsf_held.specs.Least.{IsScriptBut, IsReady, with_words, AreLeastRows, AreLeastWords, IsBracket, least_text, with_least}
+pub use Rattle.tlsf_held.specs.Least.{IsScriptBut, KeepsScript, with_words, AreLeastRows, AreLeastWords, IsBracket, least_text, with_least}
 pub use Rattle.tlsf_held.specs.Lent.{inventory_of, with_len, others, with_loan}
 pub use Rattle.tlsf_held.specs.Loans.{account_of, Account, accounted, wanted_in, with_resized, with_taken, IsMostWanted, WantAtMost, freed_by, no_loans, wanted_with}
 pub use Rattle.tlsf_held.specs.Measures.{AreLeastBounds, EachServed, HeldKindsSuffice, HeldPoolsSuffice, IsServed, HeldWordsSuffice, IsMostWantedOf, Measures, TellsKinds, TellsMerged}

@@ -24,6 +24,16 @@ words_by cost at (n ∷ lens) = cost at (at + n) + words_by cost (at + n) lens
 abbrev pub cost_in : List (List ℕ) → ℕ → ℕ → ℕ
 cost_in costs at end = get_or (get_or costs at []) (end - 1) 0
 
+-- at most 64 places, each of small words
+pub record AreSmall (costs : List (List ℕ)) : Type 0 where
+  pub few : length costs ≤ 64
+  pub small : (at last : ℕ) → get_or (get_or costs at []) last 0 ≤ 2 ^ 32
+
+-- and a row of splits, one from each of them on and one more
+pub record HasCells (costs : List (List ℕ)) (row : List Split) : Type 0 where
+  pub costs_are : AreSmall costs
+  pub whole : length row ≡ length costs + 1
+
 -- the lengths that a split has, the last of this many first
 abbrev pub lens_in : ℕ → List ℕ → List ℕ
 lens_in zero lens = []

@@ -2,6 +2,7 @@
 use Rattle.std.specs.Prelude.{◌≡◌, ℕ, ◌+◌, ◌-◌, ◌<◌, ◌≤◌, Bool, false, true, ◌&&◌, ◌==◌, List, [], ◌∷◌, ◌++◌, Option, Some, None, Result, codes, count_by, get_or, length, vec_len}
 use Rattle.std.specs.Fmt.{decimal}
 use Rattle.std.specs.Option.{unwrap_or}
+use Rattle.tlsf_class.specs.Classes.{IsLevel}
 use Rattle.tlsf_heap.specs.declared.refusal.Refusal.TheVariants.{NoFit, NoRoom}
 use Rattle.tlsf_calls.specs.declared.crew_refusal.CrewRefusal.TheVariants.{Heap}
 use Rattle.tlsf_calls.specs.declared.entry.Entry.{Entry}
@@ -98,6 +99,7 @@ IsLeastMeasurement = IsRun TellsLeast
 
 -- a script of this level, to be replayed
 pub record IsReady (sli : ℕ) (script : Script) : Type 0 where
+  pub known : IsLevel sli
   pub level : level_of script.header.version ≡ sli
   pub header : IsHeaderInRange script.header
   pub lines : vec_len script.ends ≤ 32768
@@ -105,6 +107,13 @@ pub record IsReady (sli : ℕ) (script : Script) : Type 0 where
 -- the script of a trace but for the words of its heaps
 abbrev pub IsScriptBut : Script → Trace → Type 0
 IsScriptBut script trace = IsScript script (with_words script.header.words trace)
+
+-- a search has changed no more of a script than the words of its header, and it may be replayed again
+pub record KeepsScript (sli : ℕ) (old new : Script) : Type 0 where
+  pub version : new.header.version ≡ old.header.version
+  pub workers : new.header.workers ≡ old.header.workers
+  pub ready : IsReady sli new
+  pub kept : (trace : Trace) → IsScriptBut old trace → IsScriptBut new trace
 
 -- the findings of replays: `served` words serve worker j, unless no heap has that many, and `refused` words don't, unless no heap
 -- has so few

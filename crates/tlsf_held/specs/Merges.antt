@@ -1,6 +1,6 @@
 -- Neighbouring rows of a table merged, each with the most of its blocks that are held at once.
 use Rattle.std.specs.Prelude.{◌≡◌, ℕ, ◌+◌, ◌-◌, ◌<◌, ◌≤◌, ◌^◌, ◌==◌, ◌&&◌, Bool, List, [], ◌∷◌, get_or, length, max, min, nat_le, nat_lt, if◌then◌else◌}
-use Rattle.tlsf_class.specs.Classes.{most_words}
+use Rattle.tlsf_class.specs.Classes.{IsLevel, most_words}
 use Rattle.tlsf_heap.specs.Blocks.{want}
 use Rattle.tlsf_heap.specs.Calls.{Call, Answer}
 use Rattle.tlsf_pool.specs.laws.FixedSize.{fixed_words}
@@ -23,6 +23,11 @@ abbrev pub IsBandRow : List Call → List Answer → (from to : ℕ) → Row →
 IsBandRow calls answers from to = IsLeastRow (band_of from to) 1 calls answers
 
 -- ---- rows of a table merged
+
+-- a table of a level that heaps have, of at most 64 rows
+pub record IsSmallTable (sli : ℕ) (table : List Row) : Type 0 where
+  pub level : IsLevel sli
+  pub few : length table ≤ 64
 
 -- the shortest length that counts for a table's rows from this number on: it is longer than the row before
 abbrev pub starts_at : List Row → ℕ → ℕ

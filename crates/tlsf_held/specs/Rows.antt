@@ -1,6 +1,6 @@
 -- Rows of a table of kinds, and what lengths come to in one.
-use Rattle.std.specs.Prelude.{ℕ, ◌+◌, ◌/◌, ◌^◌, ◌≤◌, ◌==◌, List, [], ◌∷◌, get_or, max, filter, nat_le, nat_lt, set, if◌then◌else◌}
-use Rattle.tlsf_class.specs.Classes.{class_of, last_class, most_words}
+use Rattle.std.specs.Prelude.{◌≡◌, ℕ, length, ◌+◌, ◌/◌, ◌^◌, ◌≤◌, ◌==◌, List, [], ◌∷◌, get_or, max, filter, nat_le, nat_lt, set, if◌then◌else◌}
+use Rattle.tlsf_class.specs.Classes.{IsLevel, class_of, last_class, most_words}
 use Rattle.tlsf_heap.specs.Blocks.{want}
 use Rattle.tlsf_held.specs.declared.row.Row.{Row}
 
@@ -15,6 +15,16 @@ row_of sli grain len = class_number sli len / 2 ^ grain
 -- how many rows there are
 abbrev pub row_count : (sli grain : ℕ) → ℕ
 row_count sli grain = (last_class sli + 1) / 2 ^ grain + 1
+
+-- at a level that heaps have, 2^power classes make a row, at most 16
+pub record IsGrain (sli power : ℕ) : Type 0 where
+  pub level : IsLevel sli
+  pub grain : power ≤ 4
+
+-- these are all its rows
+pub record AreAllRows (sli grain : ℕ) (rows : List Row) : Type 0 where
+  pub by : IsGrain sli grain
+  pub count : length rows ≡ row_count sli grain
 
 -- of no length
 abbrev pub no_row : Row

@@ -1,7 +1,7 @@
 //! How a row of places is divided into a few parts by the fewest words.
-ghost use Rattle.std.specs.Prelude.{◌≡◌, ℕ, [], ◌+◌, ◌*◌, ◌<◌, ◌≤◌, ◌^◌, get_or, length};
+ghost use Rattle.std.specs.Prelude.{◌≡◌, ℕ, ◌+◌, ◌*◌, ◌<◌, ◌≤◌, ◌^◌, get_or, length};
 ghost use Rattle.tlsf_held.specs.Divisions as found;
-ghost use Rattle.tlsf_held.specs.Divisions.{cost_in, no_split, AreBest, IsBest};
+ghost use Rattle.tlsf_held.specs.Divisions.{cost_in, no_split, AreBest, AreSmall, HasCells, IsBest};
 
 use tlsf_pool::Split;
 
@@ -47,11 +47,9 @@ fn with_first(rest: Split, len: usize, words: u64) -> Split
 // The best split of the places from one on into at most one part more than `heaps`. It comes of the best ones from each later place
 // into at most `heaps`.
 fn best_of(costs: &[Costs], row: &[Split], at: usize, heaps: usize) -> Split
-    requires few { length costs.now ≤ 64 }
+    requires cells { HasCells costs.now row.now }
     requires heaps { heaps ≤ 7 }
     requires at { at < length costs.now }
-    requires whole { length row.now ≡ length costs.now + 1 }
-    requires small { (from last : ℕ) → get_or (get_or costs.now from []) last 0 ≤ 2 ^ 32 }
     requires best { (k : ℕ) → at ≤ k → k ≤ length costs.now → IsBest (cost_in costs.now) (length costs.now) heaps k (get_or row.now k no_split) }
     ensures { IsBest (cost_in costs.now) (length costs.now) (heaps + 1) at result }
 {
@@ -65,10 +63,8 @@ fn best_of(costs: &[Costs], row: &[Split], at: usize, heaps: usize) -> Split
 
 // Allows one part more to the best split from each place on.
 fn allow_one_more(costs: &[Costs], row: &mut [Split], heaps: usize)
-    requires few { length costs.now ≤ 64 }
+    requires cells { HasCells costs.now row.old }
     requires heaps { heaps ≤ 7 }
-    requires whole { length row.old ≡ length costs.now + 1 }
-    requires small { (from last : ℕ) → get_or (get_or costs.now from []) last 0 ≤ 2 ^ 32 }
     requires best { AreBest (cost_in costs.now) (length costs.now) heaps row.old }
     ensures { AreBest (cost_in costs.now) (length costs.now) (heaps + 1) row.new }
 {
@@ -79,9 +75,7 @@ fn allow_one_more(costs: &[Costs], row: &mut [Split], heaps: usize)
 
 // Begins with one part from each place on.
 fn begin(costs: &[Costs], row: &mut [Split])
-    requires few { length costs.now ≤ 64 }
-    requires whole { length row.old ≡ length costs.now + 1 }
-    requires small { (from last : ℕ) → get_or (get_or costs.now from []) last 0 ≤ 2 ^ 32 }
+    requires { HasCells costs.now row.old }
     ensures { AreBest (cost_in costs.now) (length costs.now) 1 row.new }
 {
     let count = costs.len();
@@ -93,10 +87,8 @@ fn begin(costs: &[Costs], row: &mut [Split])
 
 // The best split of all places into at most this many parts, found in a row of one cell more.
 fn best_in(costs: &[Costs], row: &mut [Split], most: usize) -> Split
-    requires few { length costs.now ≤ 64 }
+    requires cells { HasCells costs.now row.old }
     requires most { (1 ≤ most) × (most ≤ 8) }
-    requires whole { length row.old ≡ length costs.now + 1 }
-    requires small { (from last : ℕ) → get_or (get_or costs.now from []) last 0 ≤ 2 ^ 32 }
     ensures { IsBest (cost_in costs.now) (length costs.now) most 0 result }
 {
     begin(costs, row);
@@ -109,9 +101,8 @@ fn best_in(costs: &[Costs], row: &mut [Split], most: usize) -> Split
 /// The division of all places into at most `most` parts that has the fewest words, 1 to 8 parts. There is one place for each row of
 /// costs, at most [`MOST_PLACES`].
 pub fn cheapest(costs: &[Costs], most: usize) -> Split
-    requires few { length costs.now ≤ 64 }
+    requires costs { AreSmall costs.now }
     requires most { (1 ≤ most) × (most ≤ 8) }
-    requires small { (from last : ℕ) → get_or (get_or costs.now from []) last 0 ≤ 2 ^ 32 }
     ensures { IsBest (cost_in costs.now) (length costs.now) most 0 result }
 {
     let mut cells = [NOTHING; MOST_PLACES + 1];

@@ -1,8 +1,7 @@
 //! The least words of heaps that serve a trace, found by replays.
 ghost use Rattle.std.specs.Prelude.{◌≡◌, ◌+◌, ◌<◌, ◌≤◌, ◌++◌, ◌^◌, IfOk, IfSome, OnOk, string_bytes};
-ghost use Rattle.tlsf_class.specs.Classes.{IsLevel};
 ghost use Rattle.tlsf_held.specs.Least as told;
-ghost use Rattle.tlsf_held.specs.Least.{least_line, least_text, unserved_in, with_words, AreLeastRows, AreLeastWords, IsLeastRow, IsReady, IsScriptBut};
+ghost use Rattle.tlsf_held.specs.Least.{least_line, least_text, unserved_in, with_words, AreLeastRows, AreLeastWords, IsLeastRow, IsReady, IsScriptBut, KeepsScript};
 ghost use Rattle.tlsf_held.specs.Runs.{IsRunOf};
 ghost use Rattle.tlsf_lines.specs.Trace.{Trace};
 ghost use Rattle.tlsf_lines.specs.Versions.{most_words_of};
@@ -48,12 +47,10 @@ fn replayed<const SLI: u32>(
     script: &mut Script,
     words: u32,
 ) -> Result<(Player<SLI>, Vec<Entry>), AllocError>
-    requires level { IsLevel SLI }
     requires ready { IsReady SLI script.old }
     requires words { (4 ≤ words) × (words ≤ most_words_of script.old.header.version) }
     ensures header { script.new.header ≡ record script.old.header { words = words } }
-    ensures ready { IsReady SLI script.new }
-    ensures kept { (trace : Trace) → IsScriptBut script.old trace → IsScriptBut script.new trace }
+    ensures script { KeepsScript SLI script.old script.new }
     ensures run { (trace : Trace) → IsScriptBut script.old trace
         → IfOk result (λ ran. IsRunOf (with_words words trace) ran.0.made.items ran.1.items) }
 {
@@ -71,12 +68,10 @@ fn unserved_with<const SLI: u32, G: Gate>(
     words: u32,
     gate: &G,
 ) -> Result<usize, AllocError>
-    requires level { IsLevel SLI }
     requires ready { IsReady SLI script.old }
     requires words { (4 ≤ words) × (words ≤ most_words_of script.old.header.version) }
     ensures header { script.new.header ≡ record script.old.header { words = words } }
-    ensures ready { IsReady SLI script.new }
-    ensures kept { (trace : Trace) → IsScriptBut script.old trace → IsScriptBut script.new trace }
+    ensures script { KeepsScript SLI script.old script.new }
     ensures count { (trace : Trace) → IsScriptBut script.old trace → IfOk result (λ count. count ≡ unserved_in words trace worker) }
 {
     gate.pass(worker, words);
@@ -109,12 +104,8 @@ fn least_words<const SLI: u32, G: Gate>(
     first: u32,
     gate: &G,
 ) -> Result<Option<u32>, AllocError>
-    requires level { IsLevel SLI }
-    requires ready { IsReady SLI script.old }
-    ensures version { script.new.header.version ≡ script.old.header.version }
-    ensures workers { script.new.header.workers ≡ script.old.header.workers }
-    ensures ready { IsReady SLI script.new }
-    ensures kept { (trace : Trace) → IsScriptBut script.old trace → IsScriptBut script.new trace }
+    requires { IsReady SLI script.old }
+    ensures script { KeepsScript SLI script.old script.new }
     ensures range { IfOk result (λ found. IfSome found (λ words. (4 ≤ words) × (words ≤ most_words_of script.new.header.version))) }
     ensures least { (trace : Trace) → IsScriptBut script.old trace → IfOk result (AreLeastWords trace worker) }
 {
@@ -140,12 +131,9 @@ fn least_row<const SLI: u32, G: Gate>(
     first: u32,
     gate: &G,
 ) -> Result<LeastRow, AllocError>
-    requires level { IsLevel SLI }
     requires ready { IsReady SLI script.old }
     requires worker { worker < script.old.header.workers }
-    ensures workers { script.new.header.workers ≡ script.old.header.workers }
-    ensures ready { IsReady SLI script.new }
-    ensures kept { (trace : Trace) → IsScriptBut script.old trace → IsScriptBut script.new trace }
+    ensures script { KeepsScript SLI script.old script.new }
     ensures row { (trace : Trace) → IsScriptBut script.old trace → IfOk result (IsLeastRow trace worker) }
 {
     let words = least_words::<SLI, G>(alloc, script, worker, first, gate)?;
@@ -166,8 +154,7 @@ pub fn least_rows<const SLI: u32, G: Gate>(
     script: &mut Script,
     gate: &G,
 ) -> Result<Vec<LeastRow>, AllocError>
-    requires level { IsLevel SLI }
-    requires ready { IsReady SLI script.old }
+    requires { IsReady SLI script.old }
     ensures { (trace : Trace) → IsScriptBut script.old trace → IfOk result (λ rows. AreLeastRows trace trace.header.workers rows.items) }
 {
     let mut first = script.header.words;

@@ -1,5 +1,4 @@
 ghost use Rattle.std.specs.Prelude.{◌≡◌, ◌+◌, ◌<◌, ◌≤◌, ◌*◌, ◌^◌, length, map, vec_len};
-ghost use Rattle.tlsf_class.specs.Classes.{IsLevel};
 ghost use Rattle.tlsf_crew.specs.model.World as crew;
 ghost use Rattle.tlsf_held.specs.Lent as lent;
 ghost use Rattle.tlsf_held.specs.Loans as told;
@@ -64,8 +63,7 @@ fn words_of(loans: &[Loan]) -> u128
 
 // The loans that are held, summed up by rows, where 2^grain classes make one.
 fn row_in<const SLI: u32>(loans: &[Loan], grain: u32, at: usize) -> Row
-    requires level { IsLevel SLI }
-    requires grain { grain ≤ 4 }
+    requires { rows.IsGrain SLI grain }
     ensures row { result ≡ rows.row_in (rows.row_of SLI grain) at (lengths (lent.inventory_of loans.now)) }
     ensures few { result.most + 1 < 2 ^ 64 }
 {
@@ -240,8 +238,7 @@ impl Loans {
 
     /// The blocks that are held, summed up by rows, where 2^grain classes make one.
     pub fn row_in<const SLI: u32>(&self, grain: u32, at: usize) -> Row
-        requires level { IsLevel SLI }
-        requires grain { grain ≤ 4 }
+        requires { rows.IsGrain SLI grain }
         ensures row { result ≡ rows.row_in (rows.row_of SLI grain) at (lengths self.now.inventory) }
         ensures few { result.most + 1 < 2 ^ 64 }
     {

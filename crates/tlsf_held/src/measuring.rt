@@ -1,11 +1,5 @@
 //! A trace whose run is measured.
-ghost use Rattle.std.specs.Prelude.{◌≡◌, ◌≤◌, vec_len, IfOk, string_bytes};
-ghost use Rattle.tlsf_class.specs.Classes.{IsLevel};
-ghost use Rattle.tlsf_held.specs.Measures.{IsKindMeasurement, IsMeasurement, IsMergedMeasurement, Measures, TellsKinds, TellsMerged};
-ghost use Rattle.tlsf_lines.specs.Ranges.{IsHeaderInRange};
-ghost use Rattle.tlsf_lines.specs.ScriptSoFar.{IsScript};
-ghost use Rattle.tlsf_lines.specs.Trace.{Trace};
-ghost use Rattle.tlsf_trace.specs.Output.{level_in};
+ghost use Rattle.tlsf_held.specs.Measures.{IsKindMeasurement, IsMeasurement, IsMergedMeasurement};
 
 use crate::kind_lines::{write_kinds_lines, write_merged_lines};
 use crate::lines::write_held_lines;
@@ -28,13 +22,7 @@ impl Puts for Measurement {
 }
 
 impl<const SLI: u32> Plays<SLI> for Measurement {
-    fn output(&self, alloc: Global, script: &Script) -> Result<String, AllocError>
-        requires level { IsLevel SLI }
-        requires header { IsHeaderInRange script.now.header }
-        requires lines { vec_len script.now.ends ≤ 32768 }
-        ensures { (trace : Trace) → level_in trace.header ≡ SLI → IsScript script.now trace
-            → IfOk result (λ text. Measures trace (string_bytes text)) }
-    {
+    fn output(&self, alloc: Global, script: &Script) -> Result<String, AllocError> {
         let header = script.header;
         let mut player = Player::<SLI>::open(alloc, script)?;
         let entries = player.step_to(alloc, script, END)?;
@@ -62,13 +50,7 @@ impl Puts for KindMeasurement {
 }
 
 impl<const SLI: u32> Plays<SLI> for KindMeasurement {
-    fn output(&self, alloc: Global, script: &Script) -> Result<String, AllocError>
-        requires level { IsLevel SLI }
-        requires header { IsHeaderInRange script.now.header }
-        requires lines { vec_len script.now.ends ≤ 32768 }
-        ensures { (trace : Trace) → level_in trace.header ≡ SLI → IsScript script.now trace
-            → IfOk result (λ text. TellsKinds trace (string_bytes text)) }
-    {
+    fn output(&self, alloc: Global, script: &Script) -> Result<String, AllocError> {
         let workers = script.header.workers;
         let mut player = Player::<SLI>::open(alloc, script)?;
         let entries = player.step_to(alloc, script, END)?;
@@ -91,13 +73,7 @@ impl Puts for MergedMeasurement {
 }
 
 impl<const SLI: u32> Plays<SLI> for MergedMeasurement {
-    fn output(&self, alloc: Global, script: &Script) -> Result<String, AllocError>
-        requires level { IsLevel SLI }
-        requires header { IsHeaderInRange script.now.header }
-        requires lines { vec_len script.now.ends ≤ 32768 }
-        ensures { (trace : Trace) → level_in trace.header ≡ SLI → IsScript script.now trace
-            → IfOk result (λ text. TellsMerged self.now.heaps trace (string_bytes text)) }
-    {
+    fn output(&self, alloc: Global, script: &Script) -> Result<String, AllocError> {
         let heaps = self.heaps;
         let workers = script.header.workers;
         let mut player = Player::<SLI>::open(alloc, script)?;

@@ -57,8 +57,7 @@ fn merged_row(steps: &[Step], table: &[Row], at: usize, end: usize) -> Row
 
 // The words of the rows merged from one number on, by the number of the last of each.
 fn costs_from<const SLI: u32>(steps: &[Step], table: &[Row], at: usize) -> Costs
-    requires level { IsLevel SLI }
-    requires few { length table.now ≤ 64 }
+    requires table { merges.IsSmallTable SLI table.now }
     requires at { at < length table.now }
     ensures are { (last : ℕ) → at ≤ last → last < length table.now → get_or result last 0 ≡ part_words SLI steps.now table.now at (last + 1) }
     ensures small { (last : ℕ) → get_or result last 0 ≤ 2 ^ 32 }
@@ -76,8 +75,7 @@ fn costs_of<const SLI: u32>(
     steps: &[Step],
     table: &[Row],
 ) -> Result<Vec<Costs>, AllocError>
-    requires level { IsLevel SLI }
-    requires few { length table.now ≤ 64 }
+    requires { merges.IsSmallTable SLI table.now }
     ensures { IfOk result (λ costs. AreCosts SLI steps.now table.now costs.items) }
 {
     let mut costs = Vec::new(alloc);
@@ -118,8 +116,7 @@ fn merged<const SLI: u32>(
     table: &[Row],
     most: usize,
 ) -> Result<Vec<Row>, AllocError>
-    requires level { IsLevel SLI }
-    requires few { length table.now ≤ 64 }
+    requires table { merges.IsSmallTable SLI table.now }
     requires most { (1 ≤ most) × (most ≤ 8) }
     ensures { IfOk result (λ rows. IsCheapest SLI most steps.now table.now rows.items) }
 {

@@ -36,8 +36,7 @@ fn class_number<const SLI: u32>(len: u32) -> u32
 
 /// The row of a length, where 2^grain classes make one.
 pub fn row_of<const SLI: u32>(grain: u32, len: u32) -> usize
-    requires level { IsLevel SLI }
-    requires grain { grain ≤ 4 }
+    requires { spec.IsGrain SLI grain }
     ensures row { result ≡ spec.row_of SLI grain len }
     ensures inside { result < spec.row_count SLI grain }
 {
@@ -47,8 +46,7 @@ pub fn row_of<const SLI: u32>(grain: u32, len: u32) -> usize
 
 // How many rows there are.
 fn row_count<const SLI: u32>(grain: u32) -> usize
-    requires level { IsLevel SLI }
-    requires grain { grain ≤ 4 }
+    requires { spec.IsGrain SLI grain }
     ensures { result ≡ spec.row_count SLI grain }
 {
     ((last_class::<SLI>() + 1) >> grain) as usize + 1
@@ -64,9 +62,7 @@ fn raise(rows: &mut [Row], at: usize, found: Row)
 
 // Notes the block that a call asks for, by what is held before.
 fn note_asked<const SLI: u32>(rows: &mut [Row], grain: u32, call: Call, loans: &Loans)
-    requires level { IsLevel SLI }
-    requires grain { grain ≤ 4 }
-    requires rows { length rows.old ≡ spec.row_count SLI grain }
+    requires { spec.AreAllRows SLI grain rows.old }
     ensures { rows.new ≡ told.rows_asked (spec.row_of SLI grain) rows.old call loans.now.inventory }
 {
     if let Call::Allocate { len } = call {
@@ -78,9 +74,7 @@ fn note_asked<const SLI: u32>(rows: &mut [Row], grain: u32, call: Call, loans: &
 
 // Notes a block that was resized, by what is held afterwards.
 fn note_left<const SLI: u32>(rows: &mut [Row], grain: u32, entry: &Entry, loans: &Loans)
-    requires level { IsLevel SLI }
-    requires grain { grain ≤ 4 }
-    requires rows { length rows.old ≡ spec.row_count SLI grain }
+    requires { spec.AreAllRows SLI grain rows.old }
     ensures { rows.new ≡ told.rows_left (spec.row_of SLI grain) rows.old entry.now.call entry.now.reply loans.now.inventory }
 {
     if let (Call::Resize { len, .. }, Reply::Resized) = (entry.call, entry.reply) {
@@ -98,9 +92,7 @@ fn note<const SLI: u32>(
     made: &[Option<Name>],
     entry: &Entry,
 ) -> Result<(), AllocError>
-    requires level { IsLevel SLI }
-    requires grain { grain ≤ 4 }
-    requires rows { length rows.old ≡ spec.row_count SLI grain }
+    requires { spec.AreAllRows SLI grain rows.old }
     ensures { OnOk result (record { account = loans.new; rows = rows.new }
         ≡ told.row_accounted (spec.row_of SLI grain) made.now (record { account = loans.old; rows = rows.old }) entry.now.call entry.now.reply) }
 {
@@ -118,8 +110,7 @@ fn rows_told<const SLI: u32>(
     made: &[Option<Name>],
     entries: &[Entry],
 ) -> Result<Vec<Row>, AllocError>
-    requires level { IsLevel SLI }
-    requires grain { grain ≤ 4 }
+    requires { spec.IsGrain SLI grain }
     ensures told { IfOk result (λ rows. rows.items ≡ (told.rows_told SLI grain worker made.now entries.now).rows) }
     ensures whole { IfOk result (λ rows. vec_len rows ≡ spec.row_count SLI grain) }
 {
@@ -149,8 +140,7 @@ fn used_rows<const SLI: u32>(
     made: &[Option<Name>],
     entries: &[Entry],
 ) -> Result<Vec<Row>, AllocError>
-    requires level { IsLevel SLI }
-    requires grain { grain ≤ 4 }
+    requires { spec.IsGrain SLI grain }
     ensures used { IfOk result (λ rows. rows.items ≡ told.used_rows SLI worker made.now entries.now grain) }
     ensures few { IfOk result (λ rows. vec_len rows ≤ spec.row_count SLI grain) }
 {

@@ -9,5 +9,5 @@ loop-at-preserved c =
     record {
       long = length-set c.loop-at.row at _ ∙ c.loop-at.invariant.long;
       one = row_more (cost_in costs) (length costs) 1 at c.loop-at.row c.with_first.result (omega (arith, c.loop-at.invariant.long, c.loop-at-test.true))
-          (rw c.with_first.ensures (one_best (cost_in costs) (length costs) at (get_or (get_or costs at []) (length costs - 1) 0) c.loop-at-test.true refl (c.requires.small at (length costs - 1)))) c.loop-at.invariant.one;
+          (rw c.with_first.ensures (one_best (cost_in costs) (length costs) at (get_or (get_or costs at []) (length costs - 1) 0) c.loop-at-test.true refl (c.requires.costs_are.small at (length costs - 1)))) c.loop-at.invariant.one;
     }

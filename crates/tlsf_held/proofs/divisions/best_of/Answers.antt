@@ -18,5 +18,5 @@ loop-last-preserved c =
           (first_more (cost_in costs) (length costs) heaps at last (get_or (get_or costs at []) last 0) best (get_or row (last + 1) no_split)
           c.loop-last.invariant.from c.loop-last-test.true c.requires.heaps c.loop-last.invariant.best
           (c.requires.best (last + 1) (omega (arith, c.loop-last.invariant.from)) (omega (arith, c.loop-last-test.true)))
-          (ap (λ (k : ℕ). get_or (get_or costs at []) k 0) place) (c.requires.small at (last + 1 - 1)));
+          (ap (λ (k : ℕ). get_or (get_or costs at []) k 0) place) (c.requires.cells.costs_are.small at (last + 1 - 1)));
     }

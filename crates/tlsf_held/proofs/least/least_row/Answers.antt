@@ -10,11 +10,11 @@ replayed-requires g c =
     let is : c.unwrap_or.result ≡ unwrap_or c.in_ok-words.words (most_words_of version) =
     c.unwrap_or.ensures ∙ ap (λ (most : ℕ). unwrap_or c.in_ok-words.words most) c.most_words-most.ensures in
     let within = subst (λ (words : ℕ). (4 ≤ words) × (words ≤ most_words_of version)) (sym is) (words_within version c.in_ok-words.words c.in_ok-words.ensures.range) in
-    (lit< tt, (c.requires.level, (c.in_ok-words.ensures.ready, within)))
+    (lit< tt, (c.in_ok-words.ensures.script.ready, within))
 
 pub returns-clause-row : goal.returns-clause-row
 returns-clause-row g c = λ trace is.
-    let kept = c.in_ok-words.ensures.kept trace is in
+    let kept = c.in_ok-words.ensures.script.kept trace is in
     let level = ap (λ (h : Header). level_of h.version) (sym is.header) ∙ c.requires.ready.level in
     let workers = ap (λ (h : Header). h.workers) is.header in
     let version = ap (λ (h : Header). most_words_of h.version) kept.header in

@@ -1,4 +1,4 @@
-use Rattle.tlsf_held.proofs.Common.{◌≡◌, ◌+◌, ◌-◌, ◌<◌, ◌≤◌, IsReady, IsScriptBut, IsBracket, Trace}
+use Rattle.tlsf_held.proofs.Common.{◌+◌, ◌-◌, ◌<◌, ◌≤◌, IsScriptBut, IsBracket, KeepsScript, Trace}
 use Rattle.tlsf_held.proofs.least.least_words.Given as goal
 
 abbrev pub invariant-loop-served : goal.invariant-loop-served
@@ -6,10 +6,7 @@ invariant-loop-served g l = record {
   least : 3 ≤ l.refused;
   apart : l.refused < l.served;
   most : l.served ≤ l.most + 1;
-  version : l.script.header.version ≡ l.fn.script.header.version;
-  workers : l.script.header.workers ≡ l.fn.script.header.workers;
-  ready : IsReady g.row.SLI l.script;
-  kept : (trace : Trace) → IsScriptBut l.fn.script trace → IsScriptBut l.script trace;
+  script : KeepsScript g.row.SLI l.fn.script l.script;
   bracket : (trace : Trace) → IsScriptBut l.fn.script trace → IsBracket trace l.worker l.refused l.served;
 }
 

@@ -13,7 +13,7 @@ loop-last-preserved g c =
     let at : ℕ = c.args.at in
     let last : ℕ = c.loop-last.last in
     let words : ℕ = c.row_words.result in
-    let inside : last < length costs = omega (arith, c.loop-last.invariant.room, c.requires.few, c.loop-last-test.true) in
+    let inside : last < length costs = omega (arith, c.loop-last.invariant.room, c.requires.table.few, c.loop-last-test.true) in
     record {
       room = length-set costs last words ∙ c.loop-last.invariant.room;
       are = λ k low below within. elim (cases_eq k last) [
