@@ -9,8 +9,8 @@ use crate::call_fault::CallFault;
 use crate::heap_slot::{HeapSlot, on_heap};
 use crate::names::BlockName;
 
-/// Takes back the blocks of several names, in their order, whatever the heap answers to each. The handle is looked at once, so it takes
-/// less time than as many releases.
+/// Takes back the blocks of several names, in their order, whatever the heap answers to each. It looks at the handle once, so it takes
+/// less time than a release of each.
 ///
 /// Refused as Closed where the handle isn't open.
 ///
