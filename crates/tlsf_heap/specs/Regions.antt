@@ -1,14 +1,15 @@
 -- A region as its blocks and the lists of its free blocks.
 use Rattle.std.specs.Prelude.{◌≡◌, ◌≢◌, ℕ, ◌+◌, ◌-◌, ◌<◌, ◌≤◌, ◌==◌, List, [], ◌∷◌, ◌++◌, nat_le, if◌then◌else◌, length, slice_index, slice_index_or, true, false}
 use Rattle.std.specs.List.{AllByRecursion}
+use Rattle.tlsf_class.specs.Classes.{IsLevel, most_words}
 use Rattle.tlsf_words.specs.Memory.{Memory, Extents}
 use Rattle.tlsf_words.specs.Lists.{nowhere, without_place, LinkedFrom, IsUnlisted}
 use Rattle.tlsf_words.specs.Touched.{InGroups}
 use Rattle.tlsf_words.specs.declared.tag.Tag.{Tag}
-use Rattle.tlsf_heap.specs.Blocks.{Block, Live, Free, size_of, is_free, bytes_of, words_for, StandsAt}
+use Rattle.tlsf_heap.specs.Blocks.{Block, Live, Free, size_of, words_in, is_free, bytes_of, words_for, stamps, StandsAt}
 use Rattle.tlsf_heap.specs.Calls.{first_free, past_free, last_free, before_free}
 use Rattle.tlsf_heap.specs.GoodFit.{Site, site_at, place_of}
-use Rattle.tlsf_heap.specs.FreePlaces.{AreMarked}
+use Rattle.tlsf_heap.specs.FreePlaces.{AreFreeLists, AreMarked}
 use Rattle.tlsf_heap.specs.Image.{Image, back_behind, Shows}
 use Rattle.tlsf_heap.specs.Lawful.{IsRegion}
 use Rattle.tlsf_heap.specs.Footprint.{LeavesLive}
@@ -106,6 +107,19 @@ pub record AwaitsZeros (block : Block) (n : ℕ) : Type 0 where
 -- of the lists of all classes, that of one
 abbrev pub list_in : List (List ℕ) → ℕ → List ℕ
 list_in lists class = slice_index_or lists class []
+
+-- a region is of a level, and its blocks fill it. They have sizes of the level, and each class has the list of its free ones
+pub record IsInOrder (sli : ℕ) (r : RegionState) : Type 0 where
+  pub level : IsLevel sli
+  pub whole : words_in r.blocks ≡ r.words
+  pub sized : AreRegions sli r.blocks
+  pub small : words_in r.blocks ≤ most_words sli
+  pub listed : AreFreeLists sli r.blocks (list_in r.lists)
+
+-- a region is in order, and its free blocks are stamped with ticks before this one
+pub record AwaitsTick (sli tick : ℕ) (r : RegionState) : Type 0 where
+  pub order : IsInOrder sli r
+  pub stamped : AllByRecursion (λ s. s < tick) (stamps r.blocks)
 
 -- each class has the same list
 abbrev pub SameLists : (ℕ → List ℕ) → (ℕ → List ℕ) → Type 0

@@ -3,7 +3,7 @@ ghost use Rattle.std.specs.Prelude.{◌≡◌, ◌≢◌, ℕ, ◌+◌, ◌-◌,
 ghost use Rattle.std.specs.List.{AllByRecursion};
 ghost use Rattle.tlsf_heap.specs.Blocks.{size_of, words_in, payload_words, is_free, stamps, want, StandsAt};
 ghost use Rattle.tlsf_class.specs.Classes.{IsLevel, most_words, class_of};
-ghost use Rattle.tlsf_heap.specs.Regions.{AreRegions, EachAt, HasAt, IsTagOf, IsNextTag, IsPreviousTag, AreTagsAround, AreNeighbours, AreUnlisted, IsWithout, MovedToFront, withheld_alone, list_in, OnlyReads, Edits};
+ghost use Rattle.tlsf_heap.specs.Regions.{AreRegions, EachAt, HasAt, IsTagOf, IsNextTag, IsPreviousTag, AreTagsAround, AreNeighbours, AreUnlisted, IsWithout, MovedToFront, withheld_alone, list_in, OnlyReads, IsInOrder, AwaitsTick, Edits};
 ghost use Rattle.tlsf_heap.specs.Footprint.{LeavesLive, LeavesPayloads};
 ghost use Rattle.tlsf_heap.specs.GoodFit.{block_at};
 ghost use Rattle.tlsf_heap.specs.Headers.{IsRest};
@@ -31,10 +31,8 @@ pub struct Given {
 
 /// The class whose list has the block that serves a request of `words` words as its head.
 pub fn choose<const SLI: u32>(region: &mut Region<SLI>, words: u32) -> Option<Class<SLI>>
-    requires level { IsLevel SLI }
+    requires region { IsInOrder SLI region.old }
     requires wanted { 4 ≤ words }
-    requires sized { AreRegions SLI region.old.blocks }
-    requires listed { AreFreeLists SLI region.old.blocks (list_in region.old.lists) }
     ensures best { IsBestClass SLI words region.old.blocks (list_in region.old.lists) result }
     ensures reads { OnlyReads region.old region.new 3 }
     ensures touched { LeavesLive region.old.blocks region.old.touched region.new.touched }
@@ -63,13 +61,9 @@ pub fn carve<const SLI: u32>(
     len: u32,
     spare: u32,
 ) -> Given
-    requires level { IsLevel SLI }
+    requires region { AwaitsTick SLI serial region.old }
     requires payload { want len + spare ≤ words }
     requires fits { (at : ℕ) × (i : ℕ) × IsHead SLI region.old.blocks (list_in region.old.lists) class at i × (is_free (block_at region.old.blocks i) ≡ true) × (words ≤ size_of (block_at region.old.blocks i)) }
-    requires sized { AreRegions SLI region.old.blocks }
-    requires small { words_in region.old.blocks ≤ most_words SLI }
-    requires listed { AreFreeLists SLI region.old.blocks (list_in region.old.lists) }
-    requires stamped { AllByRecursion (λ s. s < serial) (stamps region.old.blocks) }
     requires in_use { usage.old.words ≡ words_used region.old.blocks }
     ensures place { slice_get (list_in region.old.lists class.entry) 0 ≡ Some result.at }
     ensures blocks { EachAt region.old.blocks result.at (λ s. region.new.blocks ≡ s.before ++ carved (size_of s.block) words serial len ++ s.after) }
@@ -98,13 +92,9 @@ pub fn carve_unset<const SLI: u32>(
     serial: u64,
     len: u32,
 ) -> Given
-    requires level { IsLevel SLI }
+    requires region { AwaitsTick SLI serial region.old }
     requires payload { want len ≤ words }
     requires fits { (at : ℕ) × (i : ℕ) × IsHead SLI region.old.blocks (list_in region.old.lists) class at i × (is_free (block_at region.old.blocks i) ≡ true) × (words ≤ size_of (block_at region.old.blocks i)) }
-    requires sized { AreRegions SLI region.old.blocks }
-    requires small { words_in region.old.blocks ≤ most_words SLI }
-    requires listed { AreFreeLists SLI region.old.blocks (list_in region.old.lists) }
-    requires stamped { AllByRecursion (λ s. s < serial) (stamps region.old.blocks) }
     ensures place { slice_get (list_in region.old.lists class.entry) 0 ≡ Some result.at }
     ensures carved { EachAt region.old.blocks result.at (λ s. CarvedUnset SLI region.old region.new s result.at words serial len 24) }
     ensures used { words_used region.new.blocks ≡ words_used region.old.blocks + result.words }
@@ -174,14 +164,9 @@ fn rest_of(own: Tag, words: u32, at: u32) -> (Tag, u32)
 // Each neighbour has a test and a call of its own: one test for both would want a register more, saved in each release.
 #[inline(always)]
 pub fn coalesce<const SLI: u32>(region: &mut Region<SLI>, tick: &mut u64, at: u32, own: Tag)
-    requires level { IsLevel SLI }
+    requires region { AwaitsTick SLI tick.old region.old }
     requires live { HasAt region.old.blocks at (λ s. is_free s.block ≡ false) }
     requires own { EachAt region.old.blocks at (λ s. IsTagOf region.old.words s own) }
-    requires whole { words_in region.old.blocks ≡ region.old.words }
-    requires sized { AreRegions SLI region.old.blocks }
-    requires small { words_in region.old.blocks ≤ most_words SLI }
-    requires listed { AreFreeLists SLI region.old.blocks (list_in region.old.lists) }
-    requires stamped { AllByRecursion (λ s. s < tick.old) (stamps region.old.blocks) }
     requires left { tick.old ≢ last_tick }
     ensures blocks { EachAt region.old.blocks at (λ s. region.new.blocks ≡ coalesced tick.old s) }
     ensures listed { AreFreeLists SLI region.new.blocks (list_in region.new.lists) }
@@ -213,9 +198,7 @@ pub fn coalesce<const SLI: u32>(region: &mut Region<SLI>, tick: &mut u64, at: u3
 #[inline]
 pub fn next_tag<const SLI: u32>(region: &mut Region<SLI>, at: u32, own: Tag) -> Tag
     requires own { HasAt region.old.blocks at (λ s. IsTagOf region.old.words s own) }
-    requires whole { words_in region.old.blocks ≡ region.old.words }
-    requires sized { AreRegions SLI region.old.blocks }
-    requires small { words_in region.old.blocks ≤ most_words SLI }
+    requires region { IsInOrder SLI region.old }
     ensures tag { EachAt region.old.blocks at (λ s. IsNextTag region.old.words s result) }
     ensures reads { OnlyReads region.old region.new 1 }
     ensures touched { LeavesLive region.old.blocks region.old.touched region.new.touched }
@@ -231,9 +214,7 @@ pub fn next_tag<const SLI: u32>(region: &mut Region<SLI>, at: u32, own: Tag) -> 
 #[inline]
 fn previous_tag<const SLI: u32>(region: &mut Region<SLI>, at: u32, own: Tag) -> Tag
     requires own { HasAt region.old.blocks at (λ s. IsTagOf region.old.words s own) }
-    requires whole { words_in region.old.blocks ≡ region.old.words }
-    requires sized { AreRegions SLI region.old.blocks }
-    requires small { words_in region.old.blocks ≤ most_words SLI }
+    requires region { IsInOrder SLI region.old }
     ensures tag { EachAt region.old.blocks at (λ s. IsPreviousTag s result) }
     ensures reads { OnlyReads region.old region.new 1 }
     ensures touched { LeavesLive region.old.blocks region.old.touched region.new.touched }
@@ -253,17 +234,12 @@ fn previous_tag<const SLI: u32>(region: &mut Region<SLI>, at: u32, own: Tag) -> 
 // is wanted for shifts, and the stamp is needed last.
 #[inline(never)]
 fn merge_next<const SLI: u32>(region: &mut Region<SLI>, next: Tag, own: Tag, tick: u64, at: u32)
-    requires level { IsLevel SLI }
+    requires region { AwaitsTick SLI tick region.old }
     requires live { HasAt region.old.blocks at (λ s. is_free s.block ≡ false) }
     requires own { EachAt region.old.blocks at (λ s. IsTagOf region.old.words s own) }
     requires next { EachAt region.old.blocks at (λ s. IsNextTag region.old.words s next) }
     requires some { next.free ≡ true }
     requires none { EachAt region.old.blocks at (λ s. last_free s.before ≡ 0) }
-    requires whole { words_in region.old.blocks ≡ region.old.words }
-    requires sized { AreRegions SLI region.old.blocks }
-    requires small { words_in region.old.blocks ≤ most_words SLI }
-    requires listed { AreFreeLists SLI region.old.blocks (list_in region.old.lists) }
-    requires stamped { AllByRecursion (λ s. s < tick) (stamps region.old.blocks) }
     ensures blocks { EachAt region.old.blocks at (λ s. region.new.blocks ≡ coalesced tick s) }
     ensures listed { AreFreeLists SLI region.new.blocks (list_in region.new.lists) }
     ensures edits { Edits region.old region.new 25 }
@@ -288,15 +264,10 @@ fn merge_before<const SLI: u32>(
     at: u32,
     own: Tag,
 )
-    requires level { IsLevel SLI }
+    requires region { AwaitsTick SLI tick region.old }
     requires live { HasAt region.old.blocks at (λ s. is_free s.block ≡ false) }
     requires tags { EachAt region.old.blocks at (λ s. AreTagsAround region.old.words s own next previous) }
     requires some { previous.free ≡ true }
-    requires whole { words_in region.old.blocks ≡ region.old.words }
-    requires sized { AreRegions SLI region.old.blocks }
-    requires small { words_in region.old.blocks ≤ most_words SLI }
-    requires listed { AreFreeLists SLI region.old.blocks (list_in region.old.lists) }
-    requires stamped { AllByRecursion (λ s. s < tick) (stamps region.old.blocks) }
     ensures blocks { EachAt region.old.blocks at (λ s. region.new.blocks ≡ coalesced tick s) }
     ensures listed { AreFreeLists SLI region.new.blocks (list_in region.new.lists) }
     ensures edits { Edits region.old region.new 25 }
@@ -322,16 +293,11 @@ fn merge_both<const SLI: u32>(
     at: u32,
     own: Tag,
 )
-    requires level { IsLevel SLI }
+    requires region { AwaitsTick SLI tick region.old }
     requires live { HasAt region.old.blocks at (λ s. is_free s.block ≡ false) }
     requires tags { EachAt region.old.blocks at (λ s. AreTagsAround region.old.words s own next previous) }
     requires some { next.free ≡ true }
     requires both { previous.free ≡ true }
-    requires whole { words_in region.old.blocks ≡ region.old.words }
-    requires sized { AreRegions SLI region.old.blocks }
-    requires small { words_in region.old.blocks ≤ most_words SLI }
-    requires listed { AreFreeLists SLI region.old.blocks (list_in region.old.lists) }
-    requires stamped { AllByRecursion (λ s. s < tick) (stamps region.old.blocks) }
     ensures blocks { EachAt region.old.blocks at (λ s. region.new.blocks ≡ coalesced tick s) }
     ensures listed { AreFreeLists SLI region.new.blocks (list_in region.new.lists) }
     ensures edits { Edits region.old region.new 25 }

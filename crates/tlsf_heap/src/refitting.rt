@@ -1,15 +1,15 @@
 //! Resizing a block where it stands, over a region and the lists of its free blocks. Sizes and places are in words, lengths in bytes.
 ghost use Rattle.std.specs.Prelude.{◌≡◌, ◌≢◌, ℕ, ◌+◌, ◌-◌, ◌/◌, ◌<◌, ◌≤◌, ◌++◌, false, length, Contains};
 ghost use Rattle.std.specs.List.{AllByRecursion};
-ghost use Rattle.tlsf_class.specs.Classes.{IsLevel, most_words, class_of};
+ghost use Rattle.tlsf_class.specs.Classes.{IsLevel, class_of};
 ghost use Rattle.tlsf_words.specs.Lists.{without_place};
 ghost use Rattle.tlsf_words.specs.Touched.{InGroups};
 ghost use Rattle.tlsf_heap.specs.Lawful.{IsRegion, HasRoom};
-ghost use Rattle.tlsf_heap.specs.Blocks.{words_in, is_free, bytes_of, stamps, words_for};
+ghost use Rattle.tlsf_heap.specs.Blocks.{is_free, bytes_of, words_for};
 ghost use Rattle.tlsf_heap.specs.Calls;
 ghost use Rattle.tlsf_heap.specs.FreePlaces.{AreFreeLists};
 ghost use Rattle.tlsf_heap.specs.Footprint.{LeavesLive, LeavesPayloads};
-ghost use Rattle.tlsf_heap.specs.Regions.{AreRegions, EachAt, HasAt, IsTagOf, IsTagBehind, list_in, OnlyReads, Edits};
+ghost use Rattle.tlsf_heap.specs.Regions.{EachAt, HasAt, IsTagOf, IsTagBehind, list_in, OnlyReads, IsInOrder, AwaitsTick, Edits};
 ghost use Rattle.tlsf_heap.specs.WordsInUse.{words_used};
 
 use crate::fitting::next_tag;
@@ -21,9 +21,7 @@ use tlsf_words::Tag;
 /// ends.
 pub fn look_behind<const SLI: u32>(region: &mut Region<SLI>, at: u32, own: Tag) -> Tag
     requires own { HasAt region.old.blocks at (λ s. IsTagOf region.old.words s own) }
-    requires whole { words_in region.old.blocks ≡ region.old.words }
-    requires sized { AreRegions SLI region.old.blocks }
-    requires small { words_in region.old.blocks ≤ most_words SLI }
+    requires region { IsInOrder SLI region.old }
     ensures tag { EachAt region.old.blocks at (λ s. IsTagBehind region.old.words s result) }
     ensures reads { OnlyReads region.old region.new 1 }
     ensures touched { LeavesLive region.old.blocks region.old.touched region.new.touched }
@@ -69,16 +67,12 @@ fn recut<const SLI: u32>(
     words: u32,
     tick: u64,
 ) -> u32
-    requires level { IsLevel SLI }
+    requires region { AwaitsTick SLI tick region.old }
     requires least { 4 ≤ words }
     requires live { HasAt region.old.blocks at (λ s. (is_free s.block ≡ false) × (words_for (length (bytes_of s.block)) ≤ words)) }
     requires own { EachAt region.old.blocks at (λ s. IsTagOf region.old.words s own) }
     requires next { EachAt region.old.blocks at (λ s. IsTagBehind region.old.words s next) }
     requires room { words ≤ own.size + next.size }
-    requires sized { AreRegions SLI region.old.blocks }
-    requires small { words_in region.old.blocks ≤ most_words SLI }
-    requires listed { AreFreeLists SLI region.old.blocks (list_in region.old.lists) }
-    requires stamped { AllByRecursion (λ s. s < tick) (stamps region.old.blocks) }
     ensures blocks { EachAt region.old.blocks at (λ s. region.new.blocks ≡ s.before ++ Calls.recut tick words s.block s.after) }
     ensures least { words ≤ result }
     ensures cut { words + 4 ≤ own.size + next.size → result ≡ words }
@@ -111,7 +105,7 @@ pub fn grow<const SLI: u32>(
     grows: bool,
     tick: u64,
 ) -> u32
-    requires level { IsLevel SLI }
+    requires region { AwaitsTick SLI tick region.old }
     requires least { 4 ≤ words }
     requires payload { words_for len ≤ words }
     requires live { HasAt region.old.blocks at (λ s. is_free s.block ≡ false) }
@@ -121,10 +115,6 @@ pub fn grow<const SLI: u32>(
     requires more { own.size < words }
     requires room { words ≤ own.size + next.size }
     requires rooms { AllByRecursion HasRoom region.old.blocks }
-    requires sized { AreRegions SLI region.old.blocks }
-    requires small { words_in region.old.blocks ≤ most_words SLI }
-    requires listed { AreFreeLists SLI region.old.blocks (list_in region.old.lists) }
-    requires stamped { AllByRecursion (λ s. s < tick) (stamps region.old.blocks) }
     ensures blocks { EachAt region.old.blocks at (λ s. region.new.blocks ≡ s.before ++ Calls.refitted tick words len s.block s.after) }
     ensures used { words_used region.new.blocks + own.size ≡ words_used region.old.blocks + result }
     ensures more { own.size < result }
@@ -152,18 +142,13 @@ pub fn shrink<const SLI: u32>(
     grows: bool,
     tick: u64,
 ) -> u32
-    requires level { IsLevel SLI }
+    requires region { AwaitsTick SLI tick region.old }
     requires least { 4 ≤ words }
     requires payload { words_for len ≤ words }
     requires live { HasAt region.old.blocks at (λ s. is_free s.block ≡ false) }
     requires grows { EachAt region.old.blocks at (λ s. grows ≡ false → len ≤ length (bytes_of s.block)) }
     requires own { EachAt region.old.blocks at (λ s. IsTagOf region.old.words s own) }
     requires less { words ≤ own.size }
-    requires whole { words_in region.old.blocks ≡ region.old.words }
-    requires sized { AreRegions SLI region.old.blocks }
-    requires small { words_in region.old.blocks ≤ most_words SLI }
-    requires listed { AreFreeLists SLI region.old.blocks (list_in region.old.lists) }
-    requires stamped { AllByRecursion (λ s. s < tick) (stamps region.old.blocks) }
     ensures blocks { EachAt region.old.blocks at (λ s. region.new.blocks ≡ s.before ++ Calls.refitted tick words len s.block s.after) }
     ensures used { words_used region.new.blocks + own.size ≡ words_used region.old.blocks + result }
     ensures less { result ≤ own.size }
@@ -187,16 +172,11 @@ pub fn shrink<const SLI: u32>(
 // Always inline, as `grow` is.
 #[inline(always)]
 fn split_off<const SLI: u32>(region: &mut Region<SLI>, at: u32, own: Tag, words: u32, tick: u64)
-    requires level { IsLevel SLI }
+    requires region { AwaitsTick SLI tick region.old }
     requires least { 4 ≤ words }
     requires live { HasAt region.old.blocks at (λ s. (is_free s.block ≡ false) × (words_for (length (bytes_of s.block)) ≤ words)) }
     requires own { EachAt region.old.blocks at (λ s. IsTagOf region.old.words s own) }
     requires less { words + 4 ≤ own.size }
-    requires whole { words_in region.old.blocks ≡ region.old.words }
-    requires sized { AreRegions SLI region.old.blocks }
-    requires small { words_in region.old.blocks ≤ most_words SLI }
-    requires listed { AreFreeLists SLI region.old.blocks (list_in region.old.lists) }
-    requires stamped { AllByRecursion (λ s. s < tick) (stamps region.old.blocks) }
     ensures blocks { EachAt region.old.blocks at (λ s. region.new.blocks ≡ s.before ++ Calls.recut tick words s.block s.after) }
     ensures used { words_used region.new.blocks + own.size ≡ words_used region.old.blocks + words }
     ensures listed { AreFreeLists SLI region.new.blocks (list_in region.new.lists) }

@@ -45,7 +45,7 @@ zeroed g c = c.zero.ensures.change c.requires.fits.1 (stands_around (was_given g
 
 -- the block begins at one place
 one : (g : Over) (c : goal.After-zero g) (i : ℕ) → StandsAt c.args.region.now.blocks c.carve_unset-given.result.at i → c.requires.fits.1 ≡ i
-one g c i stands = one_index g.row.SLI c.args.region.now.blocks c.carve_unset-given.result.at c.requires.fits.1 i c.requires.sized (here g c) stands
+one g c i stands = one_index g.row.SLI c.args.region.now.blocks c.carve_unset-given.result.at c.requires.fits.1 i c.requires.region.order.sized (here g c) stands
 
 pub returns-clause-blocks : goal.returns-clause-blocks
 returns-clause-blocks g c i stands =
@@ -84,7 +84,7 @@ returns-clause-touched g c k live =
     let at = c.carve_unset-given.result.at in
     let new = c.carve_unset-given.new.region in
     let stands = here g c in
-    let some = (region_around g.row.SLI (around bs at fits.1 stands) c.requires.sized).0 in
+    let some = (region_around g.row.SLI (around bs at fits.1 stands) c.requires.region.order.sized).0 in
     let other = free_elsewhere bs at fits.1 k stands fits.3 (omega (arith, some)) live in
     let words = cut_words (size_of (block_at bs fits.1)) c.args.words c.args.serial c.args.serial (lying new.stored at c.args.len) fits.4 in
     let left = kept_others bs new.blocks _ at fits.1 k stands (c.carve_unset-given.ensures.carved fits.1 stands).blocks words other in

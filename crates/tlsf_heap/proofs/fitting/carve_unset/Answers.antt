@@ -5,13 +5,13 @@ use Rattle.tlsf_heap.proofs.fitting.carve_unset.Goals as goal
 
 pub give_unset-words-requires : goal.give_unset-words-requires
 give_unset-words-requires g c =
-    let f : IsFreeHere g.row.SLI c.args.region.now.blocks c.pop_first-at.result c.requires.fits.1 = record { stands = head_stands g.row.SLI c.requires.fits.2 c.pop_first-at.ensures.place; free = c.requires.fits.3; regions = c.requires.sized } in
-    let left = taken_each g.row.SLI f c.requires.fits.2.classed c.requires.listed c.pop_first-at.ensures.change in
+    let f : IsFreeHere g.row.SLI c.args.region.now.blocks c.pop_first-at.result c.requires.fits.1 = record { stands = head_stands g.row.SLI c.requires.fits.2 c.pop_first-at.ensures.place; free = c.requires.fits.3; regions = c.requires.region.order.sized } in
+    let left = taken_each g.row.SLI f c.requires.fits.2.classed c.requires.region.order.listed c.pop_first-at.ensures.change in
     let reads = c.tag-own.ensures.reads in
     let blocks = reads.blocks ∙ c.pop_first-at.ensures.change.blocks in (
       omega arith,
       (
-        c.requires.level,
+        c.requires.region.order.level,
         (
           c.requires.payload,
           (
@@ -19,8 +19,8 @@ give_unset-words-requires g c =
             (
               rw (reads.blocks, reads.words) c.tag-own.ensures.value,
               (
-                rw blocks c.requires.sized,
-                (rw blocks c.requires.small, (rw (reads.blocks, reads.lists) left, rw blocks c.requires.stamped)),
+                rw blocks c.requires.region.order.sized,
+                (rw blocks c.requires.region.order.small, (rw (reads.blocks, reads.lists) left, rw blocks c.requires.region.stamped)),
               ),
             ),
           ),

@@ -8,7 +8,7 @@ use Rattle.tlsf_heap.proofs.fitting.coalesce.Goals as goal
 pub free-requires : goal.free-requires
 free-requires g c =
     let live = c.requires.live in
-    let f = is_between g.row.SLI live c.requires.sized c.requires.stamped c.requires.listed refl in
+    let f = is_between g.row.SLI live c.requires.region in
     let next = c.next_tag-next.ensures in
     let previous = c.previous_tag-previous.ensures in
     let blocks = previous.reads.blocks ∙ next.reads.blocks in
@@ -29,7 +29,7 @@ free-requires g c =
           rw blocks (λ i stands. ((ahead i stands).live previous_live, (next.tag i stands).live next_live)),
           rw (blocks, lists)
               (λ i stands. subst (λ (k : ℕ). AreUnlisted (list_in c.args.region.now.lists) c.args.at (c.args.at + size_of (block_at c.args.region.now.blocks k)))
-              (one_index g.row.SLI c.args.region.now.blocks c.args.at live.0 i c.requires.sized live.1 stands) (λ k low high. rest_unlisted g.row.SLI f left k (omega (arith, low)) (omega (arith, high)))),
+              (one_index g.row.SLI c.args.region.now.blocks c.args.at live.0 i c.requires.region.order.sized live.1 stands) (λ k low high. rest_unlisted g.row.SLI f left k (omega (arith, low)) (omega (arith, high)))),
         ),
       ),
     )
@@ -37,7 +37,7 @@ free-requires g c =
 pub push-requires : goal.push-requires
 push-requires g c =
     let live = c.requires.live in
-    let f = is_between g.row.SLI live c.requires.sized c.requires.stamped c.requires.listed refl in
+    let f = is_between g.row.SLI live c.requires.region in
     let next = c.next_tag-next.ensures in
     let previous = c.previous_tag-previous.ensures in
     let blocks = previous.reads.blocks ∙ next.reads.blocks in
@@ -65,7 +65,7 @@ push-requires g c =
 pub returns-clause-listed : goal.returns-clause-listed
 returns-clause-listed g c =
     let live = c.requires.live in
-    let f = is_between g.row.SLI live c.requires.sized c.requires.stamped c.requires.listed refl in
+    let f = is_between g.row.SLI live c.requires.region in
     let next = c.next_tag-next.ensures in
     let previous = c.previous_tag-previous.ensures in
     let blocks = previous.reads.blocks ∙ next.reads.blocks in

@@ -7,14 +7,14 @@ use Rattle.tlsf_heap.proofs.fitting.merge_before.Goals as goal
 
 pub with_previous-whole-requires-clause-fits : goal.with_previous-whole-requires-clause-fits
 with_previous-whole-requires-clause-fits g c =
-    let t = tagged g.row.SLI c.requires.live c.requires.tags c.requires.sized c.requires.stamped c.requires.listed in
+    let t = tagged g.row.SLI c.requires.live c.requires.tags c.requires.region in
     let unfree = sym c.is_free.ensures ∙ c.if-is_free.false in
     let some = c.requires.some in
-    omega (arith, t.tags.is_previous.size some, c.as_free.ensures.size, t.tags.is_own.size, before_within g.row.SLI t.between, end_within g.row.SLI t.between, c.requires.small, most_words_any g.row.SLI)
+    omega (arith, t.tags.is_previous.size some, c.as_free.ensures.size, t.tags.is_own.size, before_within g.row.SLI t.between, end_within g.row.SLI t.between, c.requires.region.order.small, most_words_any g.row.SLI)
 
 pub take_in-requires : goal.take_in-requires
 take_in-requires g c =
-    let t = tagged g.row.SLI c.requires.live c.requires.tags c.requires.sized c.requires.stamped c.requires.listed in
+    let t = tagged g.row.SLI c.requires.live c.requires.tags c.requires.region in
     let unfree = sym c.is_free.ensures ∙ c.if-is_free.false in
     let some = c.requires.some in
     let whole = c.with_previous-whole.ensures in
@@ -23,13 +23,13 @@ take_in-requires g c =
     let out = nothing_out g.row.SLI (t.tags.is_next.live unfree) in (
       omega arith,
       (
-        c.requires.level,
+        c.requires.region.order.level,
         (
           ahead_region g.row.SLI t some c.size-before.ensures.value,
           (
             (t.i, t.between.stands, are),
             (
-              omega (arith, are.size, before_within g.row.SLI t.between, end_within g.row.SLI t.between, c.requires.small),
+              omega (arith, are.size, before_within g.row.SLI t.between, end_within g.row.SLI t.between, c.requires.region.order.small),
               (
                 rw ahead (contains_previous g.row.SLI t.between out (t.tags.is_previous.some some)),
                 λ left is k low high. rest_unlisted g.row.SLI t.between (withheld_listed g.row.SLI t.between out (ahead_out g.row.SLI t some c.size-before.ensures.value is) (λ class. refl) t.i t.between.stands) k (omega (arith, low, are.before)) (omega (arith, high, are.size, are.before, before_within g.row.SLI t.between)),
@@ -42,7 +42,7 @@ take_in-requires g c =
 
 pub returns-clause-listed : goal.returns-clause-listed
 returns-clause-listed g c =
-    let t = tagged g.row.SLI c.requires.live c.requires.tags c.requires.sized c.requires.stamped c.requires.listed in
+    let t = tagged g.row.SLI c.requires.live c.requires.tags c.requires.region in
     let unfree = sym c.is_free.ensures ∙ c.if-is_free.false in
     let some = c.requires.some in
     let whole = c.with_previous-whole.ensures in

@@ -11,47 +11,47 @@ use Rattle.tlsf_heap.proofs.fitting.merge_both.Goals as goal
 
 pub overflow_add-at : goal.overflow_add-at
 overflow_add-at g c =
-    let t = tagged g.row.SLI c.requires.live c.requires.tags c.requires.sized c.requires.stamped c.requires.listed in
-    omega (arith, c.size.ensures.value, t.tags.is_own.size, end_within g.row.SLI t.between, c.requires.small, most_words_any g.row.SLI)
+    let t = tagged g.row.SLI c.requires.live c.requires.tags c.requires.region in
+    omega (arith, c.size.ensures.value, t.tags.is_own.size, end_within g.row.SLI t.between, c.requires.region.order.small, most_words_any g.row.SLI)
 
 pub remove-requires : goal.remove-requires
 remove-requires g c =
-    let t = tagged g.row.SLI c.requires.live c.requires.tags c.requires.sized c.requires.stamped c.requires.listed in
+    let t = tagged g.row.SLI c.requires.live c.requires.tags c.requires.region in
     let next_free = c.requires.some in
     let region = behind_region g.row.SLI t next_free c.size-after.ensures.value in
-    (omega arith, (c.requires.level, (region.0, (region.1, behind_listed g.row.SLI t next_free c.size-after.ensures.value c.size.ensures.value))))
+    (omega arith, (c.requires.region.order.level, (region.0, (region.1, behind_listed g.row.SLI t next_free c.size-after.ensures.value c.size.ensures.value))))
 
 pub overflow_sub-at : goal.overflow_sub-at
 overflow_sub-at g c =
-    let t = tagged g.row.SLI c.requires.live c.requires.tags c.requires.sized c.requires.stamped c.requires.listed in
+    let t = tagged g.row.SLI c.requires.live c.requires.tags c.requires.region in
     let previous_free = c.requires.both in
     ahead_within g.row.SLI t previous_free c.size-before.ensures.value
 
 pub remove-requires-2 : goal.remove-requires-2
 remove-requires-2 g c =
-    let t = tagged g.row.SLI c.requires.live c.requires.tags c.requires.sized c.requires.stamped c.requires.listed in
+    let t = tagged g.row.SLI c.requires.live c.requires.tags c.requires.region in
     let next_free = c.requires.some in
     let previous_free = c.requires.both in
     let ahead = ahead_is g.row.SLI t previous_free c.size-before.ensures.value in
     let out = behind_out g.row.SLI t next_free c.size-after.ensures.value c.size.ensures.value c.remove.ensures in
     let region = ahead_region g.row.SLI t previous_free c.size-before.ensures.value in
-    (omega arith, (c.requires.level, (region.0, (region.1, rw ahead (contains_previous g.row.SLI t.between out (t.tags.is_previous.some previous_free))))))
+    (omega arith, (c.requires.region.order.level, (region.0, (region.1, rw ahead (contains_previous g.row.SLI t.between out (t.tags.is_previous.some previous_free))))))
 
 pub with_next-requires-clause-inner : goal.with_next-requires-clause-inner
 with_next-requires-clause-inner g c =
-    let t = tagged g.row.SLI c.requires.live c.requires.tags c.requires.sized c.requires.stamped c.requires.listed in
+    let t = tagged g.row.SLI c.requires.live c.requires.tags c.requires.region in
     let next_free = c.requires.some in
-    inner_is c.requires.whole t.between.stands t.tags.is_own (t.tags.is_next.some next_free)
+    inner_is c.requires.region.order.whole t.between.stands t.tags.is_own (t.tags.is_next.some next_free)
 
 pub with_next-requires-clause-fits : goal.with_next-requires-clause-fits
 with_next-requires-clause-fits g c =
-    let t = tagged g.row.SLI c.requires.live c.requires.tags c.requires.sized c.requires.stamped c.requires.listed in
+    let t = tagged g.row.SLI c.requires.live c.requires.tags c.requires.region in
     let next_free = c.requires.some in
-    omega (arith, t.tags.is_next.size next_free, t.tags.is_own.size, end_within g.row.SLI t.between, c.requires.small, most_words_any g.row.SLI)
+    omega (arith, t.tags.is_next.size next_free, t.tags.is_own.size, end_within g.row.SLI t.between, c.requires.region.order.small, most_words_any g.row.SLI)
 
 pub with_previous-whole-requires-clause-fits : goal.with_previous-whole-requires-clause-fits
 with_previous-whole-requires-clause-fits g c =
-    let t = tagged g.row.SLI c.requires.live c.requires.tags c.requires.sized c.requires.stamped c.requires.listed in
+    let t = tagged g.row.SLI c.requires.live c.requires.tags c.requires.region in
     let next_free = c.requires.some in
     let previous_free = c.requires.both in
     omega (
@@ -62,13 +62,13 @@ with_previous-whole-requires-clause-fits g c =
       t.tags.is_next.size next_free,
       before_within g.row.SLI t.between,
       end_within g.row.SLI t.between,
-      c.requires.small,
+      c.requires.region.order.small,
       most_words_any g.row.SLI,
     )
 
 pub merge-requires : goal.merge-requires
 merge-requires g c =
-    let t = tagged g.row.SLI c.requires.live c.requires.tags c.requires.sized c.requires.stamped c.requires.listed in
+    let t = tagged g.row.SLI c.requires.live c.requires.tags c.requires.region in
     let next_free = c.requires.some in
     let previous_free = c.requires.both in
     let whole = c.with_previous-whole.ensures in
@@ -102,30 +102,30 @@ merge-requires g c =
 
 pub class_of-requires : goal.class_of-requires
 class_of-requires g c =
-    let t = tagged g.row.SLI c.requires.live c.requires.tags c.requires.sized c.requires.stamped c.requires.listed in
+    let t = tagged g.row.SLI c.requires.live c.requires.tags c.requires.region in
     let next_free = c.requires.some in
     let previous_free = c.requires.both in
     let size : c.size-2.result ≡ last_free (take t.i c.args.region.now.blocks) + size_of (block_at c.args.region.now.blocks t.i) + first_free (drop (suc t.i) c.args.region.now.blocks) =
     omega (arith, c.size-2.ensures.value, c.with_previous-whole.ensures.size, c.with_next.ensures.size, t.tags.is_own.size, t.tags.is_next.size next_free, t.tags.is_previous.size previous_free) in (
       omega arith,
       (
-        c.requires.level,
+        c.requires.region.order.level,
         (
           omega (arith, size, (size_region g.row.SLI t.between).0),
-          omega (arith, size, end_within g.row.SLI t.between, before_within g.row.SLI t.between, c.requires.small, most_words_any g.row.SLI),
+          omega (arith, size, end_within g.row.SLI t.between, before_within g.row.SLI t.between, c.requires.region.order.small, most_words_any g.row.SLI),
         ),
       ),
     )
 
 pub overflow_sub-at-2 : goal.overflow_sub-at-2
 overflow_sub-at-2 g c =
-    let t = tagged g.row.SLI c.requires.live c.requires.tags c.requires.sized c.requires.stamped c.requires.listed in
+    let t = tagged g.row.SLI c.requires.live c.requires.tags c.requires.region in
     let previous_free = c.requires.both in
     ahead_within g.row.SLI t previous_free c.size-before.ensures.value
 
 pub push-requires : goal.push-requires
 push-requires g c =
-    let t = tagged g.row.SLI c.requires.live c.requires.tags c.requires.sized c.requires.stamped c.requires.listed in
+    let t = tagged g.row.SLI c.requires.live c.requires.tags c.requires.region in
     let next_free = c.requires.some in
     let previous_free = c.requires.both in
     let ahead = ahead_is g.row.SLI t previous_free c.size-before.ensures.value in
@@ -151,7 +151,7 @@ returns-clause-blocks g c =
 
 pub returns-clause-listed : goal.returns-clause-listed
 returns-clause-listed g c =
-    let t = tagged g.row.SLI c.requires.live c.requires.tags c.requires.sized c.requires.stamped c.requires.listed in
+    let t = tagged g.row.SLI c.requires.live c.requires.tags c.requires.region in
     let next_free = c.requires.some in
     let previous_free = c.requires.both in
     let ahead = ahead_is g.row.SLI t previous_free c.size-before.ensures.value in
@@ -168,7 +168,7 @@ returns-clause-listed g c =
 
 pub returns-clause-edits : goal.returns-clause-edits
 returns-clause-edits g c =
-    let t = tagged g.row.SLI c.requires.live c.requires.tags c.requires.sized c.requires.stamped c.requires.listed in
+    let t = tagged g.row.SLI c.requires.live c.requires.tags c.requires.region in
     let blocks = c.remove-2.ensures.blocks ∙ c.remove.ensures.blocks in
     let merged = (c.merge.ensures.change t.i (rw blocks t.between.stands)).edits in
     edits_both (omega arith) c.remove.ensures.edits (edits_both {most = 19} (omega arith) c.remove-2.ensures.edits (edits_both {most = 13} (omega arith) merged c.push.ensures.edits))

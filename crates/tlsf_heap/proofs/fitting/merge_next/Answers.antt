@@ -10,31 +10,31 @@ use Rattle.tlsf_heap.proofs.fitting.merge_next.Goals as goal
 
 pub overflow_add-at : goal.overflow_add-at
 overflow_add-at g c =
-    let t = tagged_next g.row.SLI c.requires.live c.requires.own c.requires.next c.requires.none c.requires.sized c.requires.stamped c.requires.listed in
-    omega (arith, c.size.ensures.value, t.tags.is_own.size, end_within g.row.SLI t.between, c.requires.small, most_words_any g.row.SLI)
+    let t = tagged_next g.row.SLI c.requires.live c.requires.own c.requires.next c.requires.none c.requires.region in
+    omega (arith, c.size.ensures.value, t.tags.is_own.size, end_within g.row.SLI t.between, c.requires.region.order.small, most_words_any g.row.SLI)
 
 pub remove-requires : goal.remove-requires
 remove-requires g c =
-    let t = tagged_next g.row.SLI c.requires.live c.requires.own c.requires.next c.requires.none c.requires.sized c.requires.stamped c.requires.listed in
+    let t = tagged_next g.row.SLI c.requires.live c.requires.own c.requires.next c.requires.none c.requires.region in
     let next_free = c.requires.some in
     let region = behind_region g.row.SLI t next_free c.size-after.ensures.value in
-    (omega arith, (c.requires.level, (region.0, (region.1, behind_listed g.row.SLI t next_free c.size-after.ensures.value c.size.ensures.value))))
+    (omega arith, (c.requires.region.order.level, (region.0, (region.1, behind_listed g.row.SLI t next_free c.size-after.ensures.value c.size.ensures.value))))
 
 pub with_next-whole-requires-clause-inner : goal.with_next-whole-requires-clause-inner
 with_next-whole-requires-clause-inner g c =
-    let t = tagged_next g.row.SLI c.requires.live c.requires.own c.requires.next c.requires.none c.requires.sized c.requires.stamped c.requires.listed in
+    let t = tagged_next g.row.SLI c.requires.live c.requires.own c.requires.next c.requires.none c.requires.region in
     let next_free = c.requires.some in
-    inner_is c.requires.whole t.between.stands t.tags.is_own (t.tags.is_next.some next_free)
+    inner_is c.requires.region.order.whole t.between.stands t.tags.is_own (t.tags.is_next.some next_free)
 
 pub with_next-whole-requires-clause-fits : goal.with_next-whole-requires-clause-fits
 with_next-whole-requires-clause-fits g c =
-    let t = tagged_next g.row.SLI c.requires.live c.requires.own c.requires.next c.requires.none c.requires.sized c.requires.stamped c.requires.listed in
+    let t = tagged_next g.row.SLI c.requires.live c.requires.own c.requires.next c.requires.none c.requires.region in
     let next_free = c.requires.some in
-    omega (arith, t.tags.is_next.size next_free, t.tags.is_own.size, end_within g.row.SLI t.between, c.requires.small, most_words_any g.row.SLI)
+    omega (arith, t.tags.is_next.size next_free, t.tags.is_own.size, end_within g.row.SLI t.between, c.requires.region.order.small, most_words_any g.row.SLI)
 
 pub merge-requires : goal.merge-requires
 merge-requires g c =
-    let t = tagged_next g.row.SLI c.requires.live c.requires.own c.requires.next c.requires.none c.requires.sized c.requires.stamped c.requires.listed in
+    let t = tagged_next g.row.SLI c.requires.live c.requires.own c.requires.next c.requires.none c.requires.region in
     let next_free = c.requires.some in
     let whole = c.with_next-whole.ensures in
     let are = with_next_are t.tags whole.free c.size-after.ensures.value next_free refl (none_ahead g.row.SLI t.between (c.requires.none t.i t.between.stands)) whole.size whole.last whole.back in
@@ -61,22 +61,22 @@ merge-requires g c =
 
 pub class_of-requires : goal.class_of-requires
 class_of-requires g c =
-    let t = tagged_next g.row.SLI c.requires.live c.requires.own c.requires.next c.requires.none c.requires.sized c.requires.stamped c.requires.listed in
+    let t = tagged_next g.row.SLI c.requires.live c.requires.own c.requires.next c.requires.none c.requires.region in
     let next_free = c.requires.some in
     let whole = c.with_next-whole.ensures.size in (
       omega arith,
       (
-        c.requires.level,
+        c.requires.region.order.level,
         (
           omega (arith, c.size-2.ensures.value, whole, t.tags.is_own.size, (size_region g.row.SLI t.between).0),
-          omega (arith, c.size-2.ensures.value, whole, t.tags.is_own.size, t.tags.is_next.size next_free, end_within g.row.SLI t.between, c.requires.small, most_words_any g.row.SLI),
+          omega (arith, c.size-2.ensures.value, whole, t.tags.is_own.size, t.tags.is_next.size next_free, end_within g.row.SLI t.between, c.requires.region.order.small, most_words_any g.row.SLI),
         ),
       ),
     )
 
 pub push-requires : goal.push-requires
 push-requires g c =
-    let t = tagged_next g.row.SLI c.requires.live c.requires.own c.requires.next c.requires.none c.requires.sized c.requires.stamped c.requires.listed in
+    let t = tagged_next g.row.SLI c.requires.live c.requires.own c.requires.next c.requires.none c.requires.region in
     let next_free = c.requires.some in
     let none = c.requires.none t.i t.between.stands in
     let change = (rw c.remove.ensures.blocks at c.merge.ensures.change) t.i t.between.stands in
@@ -94,7 +94,7 @@ push-requires g c =
 
 pub returns-clause-listed : goal.returns-clause-listed
 returns-clause-listed g c =
-    let t = tagged_next g.row.SLI c.requires.live c.requires.own c.requires.next c.requires.none c.requires.sized c.requires.stamped c.requires.listed in
+    let t = tagged_next g.row.SLI c.requires.live c.requires.own c.requires.next c.requires.none c.requires.region in
     let next_free = c.requires.some in
     let none = c.requires.none t.i t.between.stands in
     let change = (rw c.remove.ensures.blocks at c.merge.ensures.change) t.i t.between.stands in
@@ -107,7 +107,7 @@ returns-clause-listed g c =
 
 pub returns-clause-edits : goal.returns-clause-edits
 returns-clause-edits g c =
-    let t = tagged_next g.row.SLI c.requires.live c.requires.own c.requires.next c.requires.none c.requires.sized c.requires.stamped c.requires.listed in
+    let t = tagged_next g.row.SLI c.requires.live c.requires.own c.requires.next c.requires.none c.requires.region in
     let merged = (c.merge.ensures.change t.i (rw c.remove.ensures.blocks t.between.stands)).edits in
     edits_both (omega arith) c.remove.ensures.edits (edits_both {most = 13} (omega arith) merged c.push.ensures.edits)
 

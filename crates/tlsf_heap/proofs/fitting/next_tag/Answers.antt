@@ -6,23 +6,23 @@ use Rattle.tlsf_heap.proofs.fitting.next_tag.Goals as goal
 
 pub returns-then-is_last-clause-tag : goal.returns-then-is_last-clause-tag
 returns-then-is_last-clause-tag g c i stands =
-    let is = tag_at g.row.SLI c.args.own c.requires.sized c.requires.own stands in
-    live_next (none_behind c.requires.whole stands (end_is c.requires.whole stands is (sym c.is_last.ensures ∙ c.if-is_last.true))) c.new.ensures.free
+    let is = tag_at g.row.SLI c.args.own c.requires.region.sized c.requires.own stands in
+    live_next (none_behind c.requires.region.whole stands (end_is c.requires.region.whole stands is (sym c.is_last.ensures ∙ c.if-is_last.true))) c.new.ensures.free
 
 pub overflow_add-at : goal.overflow_add-at
 overflow_add-at g c =
     let own = c.requires.own in
-    omega (arith, c.size.ensures.value, own.2.size, ends_within c.requires.whole own.1, c.requires.whole, c.requires.small, most_words_any g.row.SLI)
+    omega (arith, c.size.ensures.value, own.2.size, ends_within c.requires.region.whole own.1, c.requires.region.whole, c.requires.region.small, most_words_any g.row.SLI)
 
 pub tag-requires : goal.tag-requires
 tag-requires g c =
     let own = c.requires.own in
-    (omega arith, rw (c.size.ensures.value, own.2.size) (place_behind c.requires.whole own.1 (short_end c.requires.whole own.1 own.2 (sym c.is_last.ensures ∙ c.if-is_last.false))))
+    (omega arith, rw (c.size.ensures.value, own.2.size) (place_behind c.requires.region.whole own.1 (short_end c.requires.region.whole own.1 own.2 (sym c.is_last.ensures ∙ c.if-is_last.false))))
 
 pub returns-clause-tag : goal.returns-clause-tag
 returns-clause-tag g c i stands =
-    let is = tag_at g.row.SLI c.args.own c.requires.sized c.requires.own stands in
-    next_is c.requires.whole g.row.SLI c.requires.sized stands (short_end c.requires.whole stands is (sym c.is_last.ensures ∙ c.if-is_last.false))
+    let is = tag_at g.row.SLI c.args.own c.requires.region.sized c.requires.own stands in
+    next_is c.requires.region.whole g.row.SLI c.requires.region.sized stands (short_end c.requires.region.whole stands is (sym c.is_last.ensures ∙ c.if-is_last.false))
     ((rw (c.size.ensures.value, is.size) at c.tag.ensures.value))
 
 pub returns-then-is_last-clause-groups : goal.returns-then-is_last-clause-groups

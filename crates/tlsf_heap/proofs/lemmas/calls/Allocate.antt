@@ -1,5 +1,5 @@
 -- The answer and the effect of an allocate, by the place of the block that is chosen.
-use Rattle.tlsf_heap.proofs.Common.{find, None, ◌≡◌, ℕ, suc, ◌+◌, ◌-◌, ◌^◌, ◌<◌, ◌≤◌, Bool, true, false, cond, eqb, List, [], ◌∷◌, ◌++◌, length, take, drop, Some, Result, Ok, Err, IsOk, refl, sym, ap, ◌∙◌, subst, inl, inr, arith, add-one, eq-eqb, ◌↔◌, AllByRecursion, list_all, drop_more, take-append-drop, false≢true, cases_lt, nat_tests, IsLevel, most_words, Block, Live, Free, HeapState, size_of, words_in, is_free, want, IsLawful, HasRoom, AreRegions, RegionState, Site, is_fit, fits, is_as_good, choice, block_at, site_at, NoneFits, IsChoice, with_blocks, carved, ticked, allocated_words, allocated_at, refused, Outcome, last_tick, Name, Refusal, NoFit, Worn}
+use Rattle.tlsf_heap.proofs.Common.{find, None, ◌≡◌, ℕ, suc, ◌+◌, ◌-◌, ◌^◌, ◌<◌, ◌≤◌, Bool, true, false, cond, eqb, List, [], ◌∷◌, ◌++◌, length, take, drop, Some, Result, Ok, Err, IsOk, refl, sym, ap, ◌∙◌, subst, inl, inr, arith, add-one, eq-eqb, ◌↔◌, AllByRecursion, list_all, drop_more, take-append-drop, false≢true, cases_lt, nat_tests, IsLevel, most_words, Block, Live, Free, HeapState, size_of, words_in, is_free, want, IsLawful, HasRoom, AreRegions, IsInOrder, AwaitsTick, OnlyReads, IsStored, state_of, Inside, RegionState, Site, is_fit, fits, is_as_good, choice, block_at, site_at, NoneFits, IsChoice, with_blocks, carved, ticked, allocated_words, allocated_at, refused, Outcome, last_tick, Name, Refusal, NoFit, Worn}
 use Rattle.tlsf_heap.proofs.lemmas.blocks.Find.{and_left, not_true}
 use Rattle.tlsf_class.proofs.ClassOfSize.{le_from_serves}
 use Rattle.tlsf_heap.proofs.lemmas.blocks.Sites.{choice_none, choice_is, fits_nothing}
@@ -119,3 +119,17 @@ regions_of sli (Free m s ∷ bs) h g = ((h.0, omega arith), regions_of sli bs h.
 
 pub lawful_regions : (sli : ℕ) (h : HeapState) → IsLawful h → h.words ≤ most_words sli → AreRegions sli h.blocks
 lawful_regions sli h lawful small = regions_of sli h.blocks lawful.rooms (omega (arith, lawful.whole))
+
+-- the region of a stored heap is in order
+pub in_order : (sli : ℕ) (h : Inside sli) → IsStored sli h → IsInOrder sli h.region
+in_order sli h is = record { level = is.level; whole = is.lawful.whole; sized = lawful_regions sli (state_of sli h) is.lawful is.small; small = omega (arith, is.lawful.whole, is.small); listed = is.listed }
+
+pub awaits_tick : (sli : ℕ) (h : Inside sli) → IsStored sli h → AwaitsTick sli h.tick h.region
+awaits_tick sli h is = record { order = in_order sli h is; stamped = is.lawful.stamps_past }
+
+-- and so is one that was only read
+pub order_read : {sli most : ℕ} {old new : RegionState} → IsInOrder sli old → OnlyReads old new most → IsInOrder sli new
+order_read is reads = record { level = is.level; whole = rw (reads.blocks, reads.words) is.whole; sized = rw reads.blocks is.sized; small = rw reads.blocks is.small; listed = rw (reads.blocks, reads.lists) is.listed }
+
+pub tick_read : {sli tick most : ℕ} {old new : RegionState} → AwaitsTick sli tick old → OnlyReads old new most → AwaitsTick sli tick new
+tick_read is reads = record { order = order_read is.order reads; stamped = rw reads.blocks is.stamped }

@@ -1,5 +1,5 @@
 -- The lists of the free blocks when a live block becomes one with its free neighbours.
-use Rattle.tlsf_heap.proofs.Common.{◌≡◌, ◌≢◌, ℕ, zero, suc, ◌+◌, ◌-◌, ◌<◌, ◌≤◌, true, false, List, [], ◌∷◌, ◌++◌, length, take, drop, refl, sym, ap, ◌∙◌, subst, arith, append_assoc, Contains, false≢true, class_of, Block, Live, Free, size_of, words_in, is_free, StandsAt, IsRegion, RegionState, AreRegions, AreTagsAround, AreUnlisted, EachAt, SameLists, TakenOut, IsWithout, IsTagOf, IsNextTag, list_in, withheld, block_at, site_at, without_place, Tag, coalesced, first_free, past_free, last_free, before_free, FreePlace, free_places, AreFreeLists}
+use Rattle.tlsf_heap.proofs.Common.{◌≡◌, ◌≢◌, ℕ, zero, suc, ◌+◌, ◌-◌, ◌<◌, ◌≤◌, true, false, List, [], ◌∷◌, ◌++◌, length, take, drop, refl, sym, ap, ◌∙◌, subst, arith, append_assoc, Contains, false≢true, class_of, Block, Live, Free, size_of, words_in, is_free, StandsAt, IsRegion, RegionState, AreRegions, AwaitsTick, AreTagsAround, AreUnlisted, EachAt, SameLists, TakenOut, IsWithout, IsTagOf, IsNextTag, list_in, withheld, block_at, site_at, without_place, Tag, coalesced, first_free, past_free, last_free, before_free, FreePlace, free_places, AreFreeLists}
 use Rattle.tlsf_heap.proofs.lemmas.blocks.Replace.{first_free-words}
 use Rattle.tlsf_heap.proofs.lemmas.lists.FreeLists.{AreListed, IsFresh, fresh_both, contains_own, not_listed, same_lists, taken, given}
 use Rattle.tlsf_heap.proofs.lemmas.blocks.Around.{Around, around, around_first, around_last, one_index, block_around, stands_around, words_around, region_around, regions_front, regions_back, next_is, next_none, last_is, last_none, last_words, past_regions, before_regions, place, places_behind, fresh_front, fresh_back, ArePast, past_around, newest, past_past, before_past}
@@ -59,18 +59,17 @@ pub record IsBetween (sli : ℕ) (bs : List Block) (at i before size after tick 
   pub past : ArePast tick bs
   pub listed : AreFreeLists sli bs lists
 
-pub is_between : (sli : ℕ) {bs : List Block} {at tick : ℕ} {old new : List (List ℕ)} → (live : (i : ℕ) × StandsAt bs at i × (is_free (block_at bs i) ≡ false)) → AreRegions sli bs
-    → ArePast tick bs → AreFreeLists sli bs (list_in old) → new ≡ old
-    → IsBetween sli bs at live.0 (last_free (take live.0 bs)) (size_of (block_at bs live.0)) (first_free (drop (suc live.0) bs)) tick (list_in new)
-is_between sli live sized past listed kept = record {
+pub is_between : (sli : ℕ) {r : RegionState} {at tick : ℕ} → (live : (i : ℕ) × StandsAt r.blocks at i × (is_free (block_at r.blocks i) ≡ false)) → AwaitsTick sli tick r
+    → IsBetween sli r.blocks at live.0 (last_free (take live.0 r.blocks)) (size_of (block_at r.blocks live.0)) (first_free (drop (suc live.0) r.blocks)) tick (list_in r.lists)
+is_between sli live region = record {
   stands = live.1;
   live = live.2;
-  sized = sized;
+  sized = region.order.sized;
   is_size = refl;
   is_before = refl;
   is_after = refl;
-  past = past;
-  listed = rw kept listed;
+  past = region.stamped;
+  listed = region.order.listed;
 }
 
 live_places : (sli at : ℕ) (b : Block) (back : List Block) → is_free b ≡ false → free_places sli at (b ∷ back) ≡ free_places sli (at + size_of b) back
@@ -259,29 +258,25 @@ pub record Tagged (sli words at tick : ℕ) (bs : List Block) (lists : ℕ → L
   pub tags : AreTagsAround words (site_at bs i) own next previous
   pub between : IsBetween sli bs at i (last_free (take i bs)) (size_of (block_at bs i)) (first_free (drop (suc i) bs)) tick lists
 
-pub tagged : (sli : ℕ) {words at tick : ℕ} {bs : List Block} {lists : ℕ → List ℕ} {own next previous : Tag} → (live : (i : ℕ) × StandsAt bs at i × (is_free (block_at bs i) ≡ false))
-    → EachAt bs at (λ s. AreTagsAround words s own next previous) → AreRegions sli bs → ArePast tick bs → AreFreeLists sli bs lists → Tagged sli words at tick bs lists own next previous
-tagged sli live tags sized past listed = record {
-  i = live.0;
-  tags = tags live.0 live.1;
-  between = record { stands = live.1; live = live.2; sized = sized; is_size = refl; is_before = refl; is_after = refl; past = past; listed = listed };
-}
+pub tagged : (sli : ℕ) {r : RegionState} {at tick : ℕ} {own next previous : Tag} → (live : (i : ℕ) × StandsAt r.blocks at i × (is_free (block_at r.blocks i) ≡ false))
+    → EachAt r.blocks at (λ s. AreTagsAround r.words s own next previous) → AwaitsTick sli tick r → Tagged sli r.words at tick r.blocks (list_in r.lists) own next previous
+tagged sli live tags region = record { i = live.0; tags = tags live.0 live.1; between = is_between sli live region }
 
 -- where no free block is before it, as with the tag of a live one
 abbrev pub live_tag : Tag
 live_tag = record { word = 0; size = 0; free = false; last = false; back = 0 }
 
-pub tagged_next : (sli : ℕ) {words at tick : ℕ} {bs : List Block} {lists : ℕ → List ℕ} {own next : Tag} → (live : (i : ℕ) × StandsAt bs at i × (is_free (block_at bs i) ≡ false))
-    → EachAt bs at (λ s. IsTagOf words s own) → EachAt bs at (λ s. IsNextTag words s next) → EachAt bs at (λ s. last_free s.before ≡ 0) → AreRegions sli bs → ArePast tick bs → AreFreeLists sli bs lists
-    → Tagged sli words at tick bs lists own next live_tag
-tagged_next sli live own next none sized past listed =
+pub tagged_next : (sli : ℕ) {r : RegionState} {at tick : ℕ} {own next : Tag} → (live : (i : ℕ) × StandsAt r.blocks at i × (is_free (block_at r.blocks i) ≡ false))
+    → EachAt r.blocks at (λ s. IsTagOf r.words s own) → EachAt r.blocks at (λ s. IsNextTag r.words s next) → EachAt r.blocks at (λ s. last_free s.before ≡ 0) → AwaitsTick sli tick r
+    → Tagged sli r.words at tick r.blocks (list_in r.lists) own next live_tag
+tagged_next sli live own next none region =
     tagged sli live
     (λ i stands. record {
       is_own = own i stands;
       is_next = next i stands;
       is_previous = record { live = λ _. none i stands; some = λ e. absurd (false≢true e); size = λ e. absurd (false≢true e); last = λ e. absurd (false≢true e); back = λ e. absurd (false≢true e) };
     })
-    sized past listed
+    region
 
 module _ (sli : ℕ) {words at tick : ℕ} {bs : List Block} {lists : ℕ → List ℕ} {own next previous : Tag} (t : Tagged sli words at tick bs lists own next previous) where
   -- the block before it is free, and its size was read

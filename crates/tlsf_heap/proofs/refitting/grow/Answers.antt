@@ -20,7 +20,7 @@ recut-left-requires g c =
     let live = c.requires.live in (
       omega arith,
       (
-        c.requires.level,
+        c.requires.region,
         (
           c.requires.least,
           (
@@ -29,19 +29,7 @@ recut-left-requires g c =
               c.requires.own,
               (
                 c.requires.next,
-                (
-                  c.requires.room,
-                  (
-                    c.requires.sized,
-                    (
-                      c.requires.small,
-                      (
-                        c.requires.listed,
-                        c.requires.stamped,
-                      ),
-                    ),
-                  ),
-                ),
+                c.requires.room,
               ),
             ),
           ),
@@ -61,7 +49,7 @@ set_payload-requires g c =
 
 pub returns-clause-blocks : goal.returns-clause-blocks
 returns-clause-blocks g c i stands =
-    let live = live_here g.row.SLI c.requires.sized c.requires.live stands in
+    let live = live_here g.row.SLI c.requires.region.order.sized c.requires.live stands in
     let room = room_here c.requires.own c.requires.next c.requires.room stands in
     let is = c.recut-left.ensures.blocks i stands in
     let set = c.set_payload.ensures.change i (recut_stands stands live c.args.tick room is) in
@@ -86,7 +74,7 @@ returns-clause-edits g c =
 
 pub returns-clause-grown : goal.returns-clause-grown
 returns-clause-grown g c i stands =
-    let live = live_here g.row.SLI c.requires.sized c.requires.live stands in
+    let live = live_here g.row.SLI c.requires.region.order.sized c.requires.live stands in
     let room = room_here c.requires.own c.requires.next c.requires.room stands in
     let is = c.recut-left.ensures.blocks i stands in
     let set = c.set_payload.ensures.grown i (recut_stands stands live c.args.tick room is) in
@@ -102,7 +90,7 @@ returns-clause-touched g c k o =
 
 pub returns-clause-groups : goal.returns-clause-groups
 returns-clause-groups g c i stands =
-    let live = live_here g.row.SLI c.requires.sized c.requires.live stands in
+    let live = live_here g.row.SLI c.requires.region.order.sized c.requires.live stands in
     let room = room_here c.requires.own c.requires.next c.requires.room stands in
     let is = c.recut-left.ensures.blocks i stands in
     let set = c.set_payload.ensures.groups i (recut_stands stands live c.args.tick room is) in

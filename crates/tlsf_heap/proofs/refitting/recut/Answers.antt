@@ -1,4 +1,4 @@
-use Rattle.tlsf_heap.proofs.Common.{◌≡◌, ◌+◌, ◌-◌, suc, take, drop, refl, ap, ◌∙◌, arith, class_of, size_of, first_free, block_at, list_in}
+use Rattle.tlsf_heap.proofs.Common.{◌≡◌, ◌+◌, ◌-◌, suc, take, drop, ap, ◌∙◌, arith, class_of, size_of, first_free, block_at, list_in}
 use Rattle.tlsf_class.proofs.TwoLevels.{most_words_any}
 use Rattle.tlsf_heap.proofs.lemmas.blocks.Replace.{rest_some, rest_none}
 use Rattle.tlsf_heap.proofs.lemmas.blocks.Used.{recut_used_small, recut_used_large}
@@ -14,18 +14,18 @@ pub overflow_add-at : goal.overflow_add-at
 overflow_add-at g c =
     let live = c.requires.live in
     let is = c.requires.own live.0 live.1 in
-    let f = is_between g.row.SLI (live.0, live.1, live.2.0) c.requires.sized c.requires.stamped c.requires.listed refl in
-    omega (arith, c.size.ensures.value, is.size, end_within g.row.SLI f, c.requires.small, most_words_any g.row.SLI)
+    let f = is_between g.row.SLI (live.0, live.1, live.2.0) c.requires.region in
+    omega (arith, c.size.ensures.value, is.size, end_within g.row.SLI f, c.requires.region.order.small, most_words_any g.row.SLI)
 
 pub forget-requires : goal.forget-requires
 forget-requires g c =
     let live = c.requires.live in
     let next = c.requires.next live.0 live.1 in
-    let f = is_between g.row.SLI (live.0, live.1, live.2.0) c.requires.sized c.requires.stamped c.requires.listed refl in
+    let f = is_between g.row.SLI (live.0, live.1, live.2.0) c.requires.region in
     let is = c.requires.own live.0 live.1 in (
       omega arith,
       (
-        c.requires.level,
+        c.requires.region.order.level,
         (
           λ some. rw (c.size-2.ensures.value, next.size) (next_region g.row.SLI f (omega (arith, some, c.size-2.ensures.value, next.size))),
           λ some. rw (c.size.ensures.value, is.size, c.size-2.ensures.value, next.size) (contains_next g.row.SLI f (omega (arith, some, c.size-2.ensures.value, next.size))),
@@ -38,7 +38,7 @@ recut-rest-requires g c =
     let live = c.requires.live in
     let is = c.requires.own live.0 live.1 in
     let next = c.requires.next live.0 live.1 in
-    let f = is_between g.row.SLI (live.0, live.1, live.2.0) c.requires.sized c.requires.stamped c.requires.listed refl in
+    let f = is_between g.row.SLI (live.0, live.1, live.2.0) c.requires.region in
     let e = c.forget.ensures in
     let out = forgets g.row.SLI (c.size-2.ensures.value ∙ next.size) (λ some. ap (λ n. c.args.at + n) (c.size.ensures.value ∙ is.size)) e.list e.others e.none in (
       omega arith,
@@ -53,7 +53,7 @@ recut-rest-requires g c =
               (
                 c.requires.room,
                 (
-                  omega (arith, is.size, next.size, end_within g.row.SLI f, c.requires.small, most_words_any g.row.SLI),
+                  omega (arith, is.size, next.size, end_within g.row.SLI f, c.requires.region.order.small, most_words_any g.row.SLI),
                   λ k low high. own_unlisted g.row.SLI f out k low (omega (arith, high, is.size, next.size)),
                 ),
               ),
@@ -68,14 +68,14 @@ class_of-requires g c =
     let live = c.requires.live in
     let is = c.requires.own live.0 live.1 in
     let next = c.requires.next live.0 live.1 in
-    let f = is_between g.row.SLI (live.0, live.1, live.2.0) c.requires.sized c.requires.stamped c.requires.listed refl in
+    let f = is_between g.row.SLI (live.0, live.1, live.2.0) c.requires.region in
     let some = rest_some (c.args.own.size + c.args.next.size) c.args.words (omega (arith, c.if-rest-gt0.true, c.recut-rest.ensures.rest)) in (
       omega arith,
       (
-        c.requires.level,
+        c.requires.region.order.level,
         (
           omega (arith, some.0, some.1, c.recut-rest.ensures.rest),
-          omega (arith, some.1, c.recut-rest.ensures.rest, is.size, next.size, end_within g.row.SLI f, c.requires.small, most_words_any g.row.SLI),
+          omega (arith, some.1, c.recut-rest.ensures.rest, is.size, next.size, end_within g.row.SLI f, c.requires.region.order.small, most_words_any g.row.SLI),
         ),
       ),
     )
@@ -85,15 +85,15 @@ overflow_add-at-then-rest-gt0 g c =
     let live = c.requires.live in
     let is = c.requires.own live.0 live.1 in
     let next = c.requires.next live.0 live.1 in
-    let f = is_between g.row.SLI (live.0, live.1, live.2.0) c.requires.sized c.requires.stamped c.requires.listed refl in
-    omega (arith, is.size, next.size, end_within g.row.SLI f, c.requires.room, c.requires.small, most_words_any g.row.SLI)
+    let f = is_between g.row.SLI (live.0, live.1, live.2.0) c.requires.region in
+    omega (arith, is.size, next.size, end_within g.row.SLI f, c.requires.room, c.requires.region.order.small, most_words_any g.row.SLI)
 
 pub push-requires : goal.push-requires
 push-requires g c =
     let live = c.requires.live in
     let is = c.requires.own live.0 live.1 in
     let next = c.requires.next live.0 live.1 in
-    let f = is_between g.row.SLI (live.0, live.1, live.2.0) c.requires.sized c.requires.stamped c.requires.listed refl in
+    let f = is_between g.row.SLI (live.0, live.1, live.2.0) c.requires.region in
     let e = c.forget.ensures in
     let out = forgets g.row.SLI (c.size-2.ensures.value ∙ next.size) (λ some. ap (λ n. c.args.at + n) (c.size.ensures.value ∙ is.size)) e.list e.others e.none in
     let change = (rw e.blocks at c.recut-rest.ensures.change) live.0 live.1 in
@@ -136,7 +136,7 @@ returns-then-rest-gt0-clause-listed g c =
     let live = c.requires.live in
     let is = c.requires.own live.0 live.1 in
     let next = c.requires.next live.0 live.1 in
-    let f = is_between g.row.SLI (live.0, live.1, live.2.0) c.requires.sized c.requires.stamped c.requires.listed refl in
+    let f = is_between g.row.SLI (live.0, live.1, live.2.0) c.requires.region in
     let e = c.forget.ensures in
     let out = forgets g.row.SLI (c.size-2.ensures.value ∙ next.size) (λ some. ap (λ n. c.args.at + n) (c.size.ensures.value ∙ is.size)) e.list e.others e.none in
     let change = (rw e.blocks at c.recut-rest.ensures.change) live.0 live.1 in
@@ -151,7 +151,7 @@ returns-clause-listed g c =
     let live = c.requires.live in
     let is = c.requires.own live.0 live.1 in
     let next = c.requires.next live.0 live.1 in
-    let f = is_between g.row.SLI (live.0, live.1, live.2.0) c.requires.sized c.requires.stamped c.requires.listed refl in
+    let f = is_between g.row.SLI (live.0, live.1, live.2.0) c.requires.region in
     let e = c.forget.ensures in
     let out = forgets g.row.SLI (c.size-2.ensures.value ∙ next.size) (λ some. ap (λ n. c.args.at + n) (c.size.ensures.value ∙ is.size)) e.list e.others e.none in
     let change = (rw e.blocks at c.recut-rest.ensures.change) live.0 live.1 in

@@ -23,29 +23,23 @@ split_off-requires g c =
     let whole = rebytes_words g.row.SLI live.1 new set.blocks in (
       omega arith,
       (
-        c.requires.level,
+        record {
+          order = record {
+            level = c.requires.region.order.level;
+            whole = omega (arith, whole, set.edits.words, c.requires.region.order.whole);
+            sized = regions_of g.row.SLI now set.edits.shows.rooms (omega (arith, whole, c.requires.region.order.small));
+            small = omega (arith, whole, c.requires.region.order.small);
+            listed = rebytes_listed g.row.SLI live.1 new set.blocks (list_in c.args.region.now.lists) (list_in c.set_payload.new.self.lists) set.lists c.requires.region.order.listed;
+          };
+          stamped = subst (AllByRecursion (λ (s : ℕ). s < c.args.tick)) (sym (rebytes_stamps g.row.SLI live.1 new set.blocks)) c.requires.region.stamped;
+        },
         (
           c.requires.least,
           (
             (live.0, stands_around a, (ap is_free (block_around a) ∙ is_free-with_bytes b new ∙ live.2, omega (arith, ap length bytes, length-fitted (bytes_of b) c.args.len, c.requires.payload))),
             (
               λ j there. let same = stands_once now c.args.at live.0 j set.edits.shows.rooms (stands_around (rebytes_around g.row.SLI live.1 new set.blocks)) there in subst (λ (k : ℕ). IsTagOf c.set_payload.new.self.words (site_at now k) c.args.own) same (subst (λ (s : Site). IsTagOf c.set_payload.new.self.words s c.args.own) (sym (rebytes_site g.row.SLI live.1 new set.blocks)) (subst (λ (n : ℕ). IsTagOf n (record { before = take live.0 bs; block = with_bytes (block_at bs live.0) new; after = drop (suc live.0) bs }) c.args.own) (sym set.edits.words) (tag_rebytes new (c.requires.own live.0 live.1)))),
-              (
-                omega (arith, c.size-held.ensures.value, c.if-held-words.false),
-                (
-                  omega (arith, whole, set.edits.words, c.requires.whole),
-                  (
-                    regions_of g.row.SLI now set.edits.shows.rooms (omega (arith, whole, c.requires.small)),
-                    (
-                      omega (arith, whole, c.requires.small),
-                      (
-                        rebytes_listed g.row.SLI live.1 (fitted (bytes_of (block_at c.args.region.now.blocks live.0)) c.args.len) set.blocks (list_in c.args.region.now.lists) (list_in c.set_payload.new.self.lists) set.lists c.requires.listed,
-                        subst (AllByRecursion (λ (s : ℕ). s < c.args.tick)) (sym (rebytes_stamps g.row.SLI live.1 (fitted (bytes_of (block_at c.args.region.now.blocks live.0)) c.args.len) set.blocks)) c.requires.stamped,
-                      ),
-                    ),
-                  ),
-                ),
-              ),
+              omega (arith, c.size-held.ensures.value, c.if-held-words.false),
             ),
           ),
         ),
@@ -65,7 +59,7 @@ pub returns-then-held-words-clause-listed : goal.returns-then-held-words-clause-
 returns-then-held-words-clause-listed g c =
     let live = c.requires.live in
     let set = c.set_payload.ensures.change live.0 live.1 in
-    rebytes_listed g.row.SLI live.1 (fitted (bytes_of (block_at c.args.region.now.blocks live.0)) c.args.len) set.blocks (list_in c.args.region.now.lists) (list_in c.set_payload.new.self.lists) set.lists c.requires.listed
+    rebytes_listed g.row.SLI live.1 (fitted (bytes_of (block_at c.args.region.now.blocks live.0)) c.args.len) set.blocks (list_in c.args.region.now.lists) (list_in c.set_payload.new.self.lists) set.lists c.requires.region.order.listed
 
 -- other bytes change no word in use
 pub returns-then-held-words-clause-used : goal.returns-then-held-words-clause-used

@@ -1,4 +1,5 @@
 use Rattle.tlsf_heap.proofs.Common.{◌∙◌, arith}
+use Rattle.tlsf_heap.proofs.lemmas.calls.Allocate.{tick_read}
 use Rattle.tlsf_heap.proofs.lemmas.words.Footprint.{any_word}
 use Rattle.tlsf_words.proofs.Touching.{groups_then}
 use Rattle.tlsf_heap.proofs.refitting.split_off.Goals as goal
@@ -6,14 +7,14 @@ use Rattle.tlsf_heap.proofs.refitting.split_off.Goals as goal
 pub look_behind-next-requires : goal.look_behind-next-requires
 look_behind-next-requires g c =
     let live = c.requires.live in
-    (omega arith, ((live.0, live.1, c.requires.own live.0 live.1), (c.requires.whole, (c.requires.sized, c.requires.small))))
+    (omega arith, ((live.0, live.1, c.requires.own live.0 live.1), c.requires.region.order))
 
 pub recut-requires : goal.recut-requires
 recut-requires g c =
     let reads = c.look_behind-next.ensures.reads in (
       omega arith,
       (
-        c.requires.level,
+        tick_read c.requires.region reads,
         (
           c.requires.least,
           (
@@ -22,13 +23,7 @@ recut-requires g c =
               rw (reads.blocks, reads.words) c.requires.own,
               (
                 rw (reads.blocks, reads.words) c.look_behind-next.ensures.tag,
-                (
-                  omega (arith, c.requires.less),
-                  (
-                    rw reads.blocks c.requires.sized,
-                    (rw reads.blocks c.requires.small, (rw (reads.blocks, reads.lists) c.requires.listed, rw reads.blocks c.requires.stamped)),
-                  ),
-                ),
+                omega (arith, c.requires.less),
               ),
             ),
           ),

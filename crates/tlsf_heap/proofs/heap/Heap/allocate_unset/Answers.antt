@@ -1,7 +1,7 @@
-use Rattle.tlsf_heap.proofs.Common.{◌≡◌, ℕ, List, ◌+◌, ap, ◌∙◌, subst, Ok, Err, arith, rules, Block, words_in, want, allocated, StandsAt, Shown, NoneFits, IsChoice, site_at, IsLawful, state_of, NoFit, Worn, InGroups, unset_from}
+use Rattle.tlsf_heap.proofs.Common.{◌≡◌, ℕ, List, ◌+◌, ap, ◌∙◌, subst, Ok, Err, arith, rules, Block, want, allocated, StandsAt, Shown, NoneFits, IsChoice, site_at, IsLawful, state_of, NoFit, Worn, InGroups, unset_from}
 use Rattle.tlsf_heap.specs.CarvedUnset.{CarvedUnset}
 use Rattle.tlsf_heap.proofs.lemmas.lists.Carved.{head_stands}
-use Rattle.tlsf_heap.proofs.lemmas.calls.Allocate.{Allocates, allocates_none, allocates_worn, lawful_regions, fits_size}
+use Rattle.tlsf_heap.proofs.lemmas.calls.Allocate.{Allocates, allocates_none, allocates_worn, in_order, awaits_tick, tick_read, fits_size}
 use Rattle.tlsf_heap.proofs.lemmas.calls.AllocateUnset.{given_zeros, given_lying, lying_lawful, zeroed}
 use Rattle.tlsf_heap.proofs.lemmas.blocks.Lawful.{with_region}
 use Rattle.tlsf_heap.proofs.lemmas.blocks.Find.{and_left}
@@ -14,22 +14,7 @@ use Rattle.tlsf_heap.proofs.lemmas.calls.Frames.{found_read, same_peak, settles_
 use Rattle.tlsf_heap.proofs.heap.Heap.allocate_unset.Goals as goal
 
 pub choose-requires : goal.choose-requires
-choose-requires g c = (
-  omega arith,
-  (
-    omega arith,
-    (
-      c.self.invariant.level,
-      (
-        omega (arith, c.want-words.ensures),
-        (
-          lawful_regions g.row.SLI (state_of g.row.SLI c.self.inside) c.self.invariant.lawful c.self.invariant.small,
-          c.self.invariant.listed,
-        ),
-      ),
-    ),
-  ),
-)
+choose-requires g c = (omega arith, (omega arith, (in_order g.row.SLI c.self.inside c.self.invariant, omega (arith, c.want-words.ensures))))
 
 -- the words wanted, by what is asked for
 fit_at : (sli n len : ℕ) (bs : List Block) (i : ℕ) → n ≡ want len → IsChoice sli n bs i → IsChoice sli (want len) bs i
@@ -90,22 +75,10 @@ carve_unset-given-requires g c =
       (
         omega arith,
         (
-          c.self.invariant.level,
+          tick_read (awaits_tick g.row.SLI c.self.inside c.self.invariant) c.choose.ensures.reads,
           (
             omega (arith, c.want-words.ensures),
-            (
-              rw (c.choose.ensures.reads.blocks, c.choose.ensures.reads.lists) (best.0, best.1, best.2, and_left _ _ best.3.fit, fits_size g.row.SLI c.self.invariant.level _ _ best.3.fit),
-              (
-                rw c.choose.ensures.reads.blocks (lawful_regions g.row.SLI (state_of g.row.SLI c.self.inside) c.self.invariant.lawful c.self.invariant.small),
-                (
-                  omega (arith, ap words_in c.choose.ensures.reads.blocks, c.self.invariant.lawful.whole, c.self.invariant.small),
-                  (
-                    rw (c.choose.ensures.reads.blocks, c.choose.ensures.reads.lists) c.self.invariant.listed,
-                    rw c.choose.ensures.reads.blocks c.self.invariant.lawful.stamps_past,
-                  ),
-                ),
-              ),
-            ),
+            rw (c.choose.ensures.reads.blocks, c.choose.ensures.reads.lists) (best.0, best.1, best.2, and_left _ _ best.3.fit, fits_size g.row.SLI c.self.invariant.level _ _ best.3.fit),
           ),
         ),
       ),

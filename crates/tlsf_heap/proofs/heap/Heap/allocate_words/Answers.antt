@@ -1,6 +1,6 @@
-use Rattle.tlsf_heap.proofs.Common.{◌+◌, ◌-◌, ◌/◌, ◌≤◌, sym, ap, ◌∙◌, subst, Ok, Err, arith, rules, HeapState, size_of, words_in, payload_words, want, StandsAt, named, payload_words_at, payload_words_given, Edits, Shown, block_at, IsLawful, IsLive, Name, state_of, Refusal, NoFit, Worn, InGroups, allocate_groups}
+use Rattle.tlsf_heap.proofs.Common.{◌+◌, ◌-◌, ◌/◌, ◌≤◌, sym, ap, ◌∙◌, subst, Ok, Err, arith, rules, HeapState, size_of, payload_words, want, StandsAt, named, payload_words_at, payload_words_given, Edits, Shown, block_at, IsLawful, IsLive, Name, state_of, Refusal, NoFit, Worn, InGroups, allocate_groups}
 use Rattle.tlsf_heap.proofs.lemmas.lists.Carved.{head_stands}
-use Rattle.tlsf_heap.proofs.lemmas.calls.Allocate.{Allocates, allocates_none, allocates_worn, allocates_some, lawful_regions, fits_size}
+use Rattle.tlsf_heap.proofs.lemmas.calls.Allocate.{Allocates, allocates_none, allocates_worn, allocates_some, lawful_regions, in_order, awaits_tick, tick_read, fits_size}
 use Rattle.tlsf_heap.proofs.lemmas.blocks.Lawful.{with_region}
 use Rattle.tlsf_heap.proofs.lemmas.blocks.Find.{and_left}
 use Rattle.tlsf_heap.proofs.lemmas.calls.GivenBlock.{carved_stands, named_payload}
@@ -14,22 +14,7 @@ use Rattle.tlsf_heap.proofs.lemmas.calls.Frames.{found_read, same_peak, settles_
 use Rattle.tlsf_heap.proofs.heap.Heap.allocate_words.Goals as goal
 
 pub choose-requires : goal.choose-requires
-choose-requires g c = (
-  omega arith,
-  (
-    omega arith,
-    (
-      c.self.invariant.level,
-      (
-        omega (arith, c.requires),
-        (
-          lawful_regions g.row.SLI (state_of g.row.SLI c.self.inside) c.self.invariant.lawful c.self.invariant.small,
-          c.self.invariant.listed,
-        ),
-      ),
-    ),
-  ),
-)
+choose-requires g c = (omega arith, (omega arith, (in_order g.row.SLI c.self.inside c.self.invariant, omega (arith, c.requires))))
 
 -- ---- nothing fits
 
@@ -85,21 +70,12 @@ carve-given-requires g c =
       (
         omega arith,
         (
-          c.self.invariant.level,
+          tick_read (awaits_tick g.row.SLI c.self.inside c.self.invariant) c.choose.ensures.reads,
           (
             omega (arith, c.requires, c.want.ensures),
             (
               rw (c.choose.ensures.reads.blocks, c.choose.ensures.reads.lists) (best.0, best.1, best.2, and_left _ _ best.3.fit, fits_size g.row.SLI c.self.invariant.level _ _ best.3.fit),
-              (
-                rw c.choose.ensures.reads.blocks (lawful_regions g.row.SLI (state_of g.row.SLI c.self.inside) c.self.invariant.lawful c.self.invariant.small),
-                (
-                  omega (arith, ap words_in c.choose.ensures.reads.blocks, c.self.invariant.lawful.whole, c.self.invariant.small),
-                  (
-                    rw (c.choose.ensures.reads.blocks, c.choose.ensures.reads.lists) c.self.invariant.listed,
-                    (rw c.choose.ensures.reads.blocks c.self.invariant.lawful.stamps_past, rw c.choose.ensures.reads.blocks c.self.invariant.in_use),
-                  ),
-                ),
-              ),
+              rw c.choose.ensures.reads.blocks c.self.invariant.in_use,
             ),
           ),
         ),

@@ -1,7 +1,7 @@
-use Rattle.tlsf_heap.proofs.Common.{ℕ, List, sym, ap, ◌∙◌, subst, arith, rules, Image, Shown, times, state_of, want}
+use Rattle.tlsf_heap.proofs.Common.{ℕ, List, sym, ap, ◌∙◌, subst, arith, rules, Image, Shown, times, want}
 use Rattle.tlsf_heap.specs.Around.{TellsTaken, FindsChoice}
 use Rattle.tlsf_heap.proofs.lemmas.blocks.Find.{and_left}
-use Rattle.tlsf_heap.proofs.lemmas.calls.Allocate.{lawful_regions, fits_size}
+use Rattle.tlsf_heap.proofs.lemmas.calls.Allocate.{in_order, fits_size}
 use Rattle.tlsf_heap.proofs.lemmas.calls.Kept.{keeps_read, reads_both, stored_read}
 use Rattle.tlsf_heap.proofs.lemmas.calls.Leaves.{seen_live}
 use Rattle.tlsf_heap.proofs.lemmas.lists.Carved.{head_stands}
@@ -10,22 +10,7 @@ use Rattle.tlsf_heap.proofs.heap.Heap.check_request.Given.{Over}
 use Rattle.tlsf_heap.proofs.heap.Heap.check_request.Goals as goal
 
 pub choose-requires : goal.choose-requires
-choose-requires g c = (
-  omega arith,
-  (
-    omega arith,
-    (
-      c.self.invariant.level,
-      (
-        omega (arith, c.want-words.ensures),
-        (
-          lawful_regions g.row.SLI (state_of g.row.SLI c.self.inside) c.self.invariant.lawful c.self.invariant.small,
-          c.self.invariant.listed,
-        ),
-      ),
-    ),
-  ),
-)
+choose-requires g c = (omega arith, (omega arith, (in_order g.row.SLI c.self.inside c.self.invariant, omega (arith, c.want-words.ensures))))
 
 pub returns-in_err-class-clause-frame : goal.returns-in_err-class-clause-frame
 returns-in_err-class-clause-frame g c = record { same = search rules; keeps = keeps_read g.row.SLI c.self.inside c.self.view_is c.self.invariant _ c.choose.ensures.reads }
@@ -41,9 +26,8 @@ found g c =
     let best = c.in_ok-class.ensures.best in
     let n = c.want-words.result in
     let stands = head_stands g.row.SLI best.2 (rw c.choose.ensures.reads.lists at (sym c.in_ok-at.ensures.place)) in
-    let regions = lawful_regions g.row.SLI (state_of g.row.SLI c.self.inside) is.lawful is.small in
     let tells = subst (λ (m : Image). TellsTaken m c.in_ok-at.at n c.check_taken.result) (c.head.ensures.reads.stored ∙ c.choose.ensures.reads.stored) c.check_taken.ensures.answer in
-    let found = chosen_sound is.shows g.row.SLI is.listed is.linked is.lawful.apart regions best.3 stands (and_left _ _ best.3.fit) (fits_size g.row.SLI is.level n _ best.3.fit) c.check_taken.result tells in
+    let found = chosen_sound is.shows g.row.SLI is.listed is.linked is.lawful.apart (in_order g.row.SLI c.self.inside is).sized best.3 stands (and_left _ _ best.3.fit) (fits_size g.row.SLI is.level n _ best.3.fit) c.check_taken.result tells in
     subst (λ (s : Shown). FindsChoice g.row.SLI (want c.args.len) s.stored s.heap.blocks c.check_taken.result) c.self.view_is
     (subst (λ (k : ℕ). FindsChoice g.row.SLI k c.self.inside.region.stored c.self.inside.region.blocks c.check_taken.result) c.want-words.ensures found)
 

@@ -1,6 +1,6 @@
 use Rattle.tlsf_heap.proofs.Common.{rules, ◌≡◌, ◌≢◌, ℕ, sym, ap, ◌∙◌, subst, Ok, arith, IsLawful, IsTagOf, site_at, Shown, state_of, released_by_place, last_tick}
 use Rattle.tlsf_heap.specs.ByPlace.{IsPlaceCheck}
-use Rattle.tlsf_heap.proofs.lemmas.calls.Allocate.{lawful_regions}
+use Rattle.tlsf_heap.proofs.lemmas.calls.Allocate.{awaits_tick}
 use Rattle.tlsf_heap.proofs.lemmas.calls.ByPlace.{released_here}
 use Rattle.tlsf_heap.proofs.lemmas.blocks.Lawful.{with_region}
 use Rattle.tlsf_heap.proofs.lemmas.words.Says.{at_index}
@@ -16,8 +16,7 @@ coalesce-requires g c =
     let l = subst (λ (s : Shown). IsPlaceCheck s.heap c.args.at (Ok c.args.own)) (sym c.self.view_is) c.requires.live in
     let is = c.self.invariant in
     let own = λ (i : ℕ). IsTagOf c.self.inside.region.words (site_at c.self.inside.region.blocks i) c.args.own in
-    let regions = lawful_regions g.row.SLI (state_of g.row.SLI c.self.inside) is.lawful is.small in
-    (omega arith, (is.level, ((l.0, l.1.stands, l.1.live), (λ i stands. at_index is.shows own (l.0, l.1.stands, l.2) stands, (is.lawful.whole, (regions, (omega (arith, is.lawful.whole, is.small), (is.listed, (is.lawful.stamps_past, (subst (λ (s : Shown). s.heap.tick ≢ last_tick) (sym c.self.view_is) c.requires.tick))))))))))
+    (omega arith, (awaits_tick g.row.SLI c.self.inside is, ((l.0, l.1.stands, l.1.live), (λ i stands. at_index is.shows own (l.0, l.1.stands, l.2) stands, subst (λ (s : Shown). s.heap.tick ≢ last_tick) (sym c.self.view_is) c.requires.tick))))
 
 -- the block's words are in use
 pub take_back-requires : goal.take_back-requires

@@ -1,7 +1,7 @@
-use Rattle.tlsf_heap.proofs.Common.{rules, ◌≡◌, ℕ, Bool, false, bytes_of, block_at, Name, IsNamed, ◌+◌, ◌-◌, ◌/◌, ◌≤◌, List, length, sym, ap, ◌∙◌, subst, arith, HeapState, words_in, words_for, payload_words_at, named, site_at, IsTagOf, Shown, state_of, payload_of, InGroups, IsOthersWord, refl}
+use Rattle.tlsf_heap.proofs.Common.{rules, ◌≡◌, ℕ, Bool, false, bytes_of, block_at, Name, IsNamed, ◌+◌, ◌-◌, ◌/◌, ◌≤◌, List, length, sym, ap, ◌∙◌, subst, arith, HeapState, words_for, payload_words_at, named, site_at, IsTagOf, Shown, state_of, payload_of, InGroups, IsOthersWord, refl}
 use Rattle.tlsf_class.proofs.TwoLevels.{most_words_any}
 use Rattle.tlsf_heap.proofs.lemmas.calls.Alter.{payload_is}
-use Rattle.tlsf_heap.proofs.lemmas.calls.Allocate.{lawful_regions}
+use Rattle.tlsf_heap.proofs.lemmas.calls.Allocate.{in_order, awaits_tick, tick_read}
 use Rattle.tlsf_heap.proofs.lemmas.calls.LeftBlock.{Found, found, room_with, room_small, resizes_short, resizes_worn, resizes_done, payload_left}
 use Rattle.tlsf_heap.proofs.lemmas.calls.Named.{named_stands, named_live}
 use Rattle.tlsf_heap.proofs.lemmas.words.Says.{at_index}
@@ -48,7 +48,7 @@ shrink-left-requires g c =
     let stands = named_stands _ _ _ _ f.named.1.1 in (
       omega arith,
       (
-        c.self.invariant.level,
+        awaits_tick g.row.SLI c.self.inside c.self.invariant,
         (
           omega (arith, c.requires.payload),
           (
@@ -60,19 +60,7 @@ shrink-left-requires g c =
                     (f.named.1.0, stands, shorter same f.named c.requires.grows) there,
                 (
                   λ i there. at_index c.self.invariant.shows (λ (i : ℕ). IsTagOf c.self.inside.region.words (site_at c.self.inside.region.blocks i) c.args.own) (f.named.1.0, stands, f.is_own) there,
-                  (
-                    omega (arith, c.if-words-held.true, c.size-held.ensures.value),
-                    (
-                      c.self.invariant.lawful.whole,
-                      (
-                        lawful_regions g.row.SLI h c.self.invariant.lawful c.self.invariant.small,
-                        (
-                          omega (arith, c.self.invariant.lawful.whole, c.self.invariant.small),
-                          (c.self.invariant.listed, c.self.invariant.lawful.stamps_past),
-                        ),
-                      ),
-                    ),
-                  ),
+                  omega (arith, c.if-words-held.true, c.size-held.ensures.value),
                 ),
               ),
             ),
@@ -157,20 +145,8 @@ returns-then-words-held-clause-grown g c =
 
 pub look_behind-next-requires : goal.look_behind-next-requires
 look_behind-next-requires g c =
-    let h = state_of g.row.SLI c.self.inside in
-    let f : Found h c.args.name c.args.own = found (ap (λ (s : Shown). s.heap) c.self.view_is) c.requires.found in (
-      omega arith,
-      (
-        (f.named.1.0, named_stands _ _ _ _ f.named.1.1, f.is_own),
-        (
-          c.self.invariant.lawful.whole,
-          (
-            lawful_regions g.row.SLI h c.self.invariant.lawful c.self.invariant.small,
-            omega (arith, c.self.invariant.lawful.whole, c.self.invariant.small),
-          ),
-        ),
-      ),
-    )
+    let f : Found (state_of g.row.SLI c.self.inside) c.args.name c.args.own = found (ap (λ (s : Shown). s.heap) c.self.view_is) c.requires.found in
+    (omega arith, ((f.named.1.0, named_stands _ _ _ _ f.named.1.1, f.is_own), in_order g.row.SLI c.self.inside c.self.invariant))
 
 pub overflow_add-room : goal.overflow_add-room
 overflow_add-room g c =
@@ -237,7 +213,7 @@ grow-left-requires g c =
     let reads = c.look_behind-next.ensures.reads in (
       omega arith,
       (
-        c.self.invariant.level,
+        tick_read (awaits_tick g.row.SLI c.self.inside c.self.invariant) reads,
         (
           omega (arith, c.requires.payload),
           (
@@ -255,16 +231,7 @@ grow-left-requires g c =
                       omega (arith, c.if-words-held.false, c.size-held.ensures.value),
                       (
                         omega (arith, c.if-room-words.false, c.size-held.ensures.value, c.size.ensures.value),
-                        (
-                          rw reads.blocks c.self.invariant.lawful.rooms,
-                          (
-                            rw reads.blocks (lawful_regions g.row.SLI h c.self.invariant.lawful c.self.invariant.small),
-                            (
-                              omega (arith, ap words_in reads.blocks, c.self.invariant.lawful.whole, c.self.invariant.small),
-                              (rw (reads.blocks, reads.lists) c.self.invariant.listed, rw reads.blocks c.self.invariant.lawful.stamps_past),
-                            ),
-                          ),
-                        ),
+                        rw reads.blocks c.self.invariant.lawful.rooms,
                       ),
                     ),
                   ),
