@@ -1,5 +1,5 @@
 -- The request of the words, by the command that they name.
-use Rattle.tlsf_command.proofs.Common.{◌≡◌, ◌∙◌, ℕ, Bool, false, true, true≢false, cond, List, [], ◌∷◌, Option, Some, None, Result, Ok, Err, codes, inl, inr, length, option_map, refl, sym, ap, ap₂, subst, arith, unwrap_or, string_bytes, IfOk, bytes_eq, Arguments, first_number, texts_in, texts_of, Asks, IsAnswerable, IsAskedBy, IsCommand, IsRunOn, IsTip, Names, ReadsTrace, faults_of, number_for, run_asked, takes_number, tip_line, tlsf_app, rivals_given, Does, Refuses, Streams, TraceRun, Replay, Held, HeldKinds, Least, Race, RaceQueues, Map, MapHtml, MapWorst, Plot, Check}
+use Rattle.tlsf_command.proofs.Common.{◌≡◌, ◌∙◌, ℕ, Bool, false, true, true≢false, List, [], ◌∷◌, Option, Some, None, Result, Ok, Err, codes, inl, inr, length, option_map, refl, sym, ap, ap₂, subst, arith, unwrap_or, string_bytes, IfOk, bytes_eq, Arguments, first_number, texts_in, texts_of, Asks, IsAnswerable, IsAskedBy, IsCommand, IsRunOn, IsTip, Names, ReadsTrace, faults_of, number_for, run_asked, takes_number, tip_line, tlsf_app, rivals_given, Does, Refuses, Streams, TraceRun, Replay, Held, HeldKinds, Least, Race, RaceQueues, Map, MapHtml, MapWorst, Plot, Check}
 use Rattle.std.specs.Box.{box_value}
 use Rattle.std.proofs.Math.Path.{fun_ext}
 use Rattle.clap.specs.Matches.{found_of, subcommand_name_of}

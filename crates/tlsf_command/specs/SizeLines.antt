@@ -1,13 +1,14 @@
 -- The lines that `tlsf size` writes and reports.
-use Rattle.std.specs.Prelude.{◌≡◌, ◌⊎◌, ◌≤◌, ◌+◌, ◌*◌, ◌/◌, ◌%◌, ◌==◌, ℕ, List, [], ◌∷◌, ◌++◌, Option, Some, None, codes, length, max, slice_get, take, if◌then◌else◌}
+use Rattle.std.specs.Prelude.{◌≡◌, ◌⊎◌, ◌<◌, ◌≤◌, ◌+◌, ◌*◌, ◌/◌, ◌%◌, ◌==◌, ℕ, List, [], ◌∷◌, ◌++◌, Option, Some, None, codes, length, max, slice_get, take, if◌then◌else◌}
 use Rattle.std.specs.List.{AllByRecursion}
 use Rattle.std.specs.Fmt.{decimal}
-use Rattle.tlsf_class.specs.Classes.{most_words}
+use Rattle.tlsf_class.specs.Classes.{IsLevel, most_words}
 use Rattle.tlsf_heap.specs.Blocks.{want}
 use Rattle.tlsf_pool.specs.laws.FixedSize.{fixed_kinds_words}
 use Rattle.tlsf_pool.specs.laws.Kinds.{kinds_words, HasClass}
 use Rattle.tlsf_pool.specs.laws.MixedSizes.{mixed_words}
 use Rattle.tlsf_pool.specs.declared.kind.Kind.{Kind}
+use Rattle.tlsf_pool.specs.sizes.Limits.{most_kinds}
 use Rattle.tlsf_pool.specs.sizes.Rising.{HasNoHeaps, Rises}
 use Rattle.tlsf_pool.specs.sizes.Splits.{words_together, IsLeast}
 use Rattle.tlsf_pool.specs.declared.sizes.split.Split.{Split}
@@ -23,6 +24,24 @@ IsServable sli kind = (1 ≤ kind.most) × (1 ≤ kind.len) × HasClass sli kind
 -- some region of the level has the words that the law asks for, for a table of such kinds
 abbrev pub AreReached : ℕ → List Kind → Type 0
 AreReached sli kinds = AllByRecursion (IsServable sli) kinds × (kinds_words sli kinds ≤ most_words sli)
+
+-- a table of no more kinds than the law of the level counts
+pub record AreKinds (sli : ℕ) (kinds : List Kind) : Type 0 where
+  pub level : IsLevel sli
+  pub few : length kinds ≤ most_kinds sli
+
+-- and no region of the level has the words that it asks for. Level 5 counts all its kinds too
+pub record AreUnreached (sli : ℕ) (kinds : List Kind) : Type 0 where
+  pub kinds_are : AreKinds sli kinds
+  pub pairs : length kinds ≤ most_kinds 5
+  pub unreached : ¬ (AreReached sli kinds)
+
+-- a table of one kind or more asks for this number of words, and some region of the level has them
+pub record IsSized (sli : ℕ) (kinds : List Kind) (words : ℕ) : Type 0 where
+  pub level : IsLevel sli
+  pub some : 0 < length kinds
+  pub reached : AreReached sli kinds
+  pub law : words ≡ kinds_words sli kinds
 
 -- the greatest number of which this holds, 0 where it holds of none
 abbrev pub IsGreatest : (ℕ → Type 0) → ℕ → Type 0
@@ -89,6 +108,12 @@ pub record IsCheapest (sli : ℕ) (kinds : List Kind) (split : Split) : Type 0 w
   pub servable : AllByRecursion (IsServable sli) kinds
   pub rises : Rises kinds
   pub least : IsLeast sli 8 kinds split
+
+-- at a level that heaps have, a table of at most 64 kinds has this cheapest split
+pub record HasCheapest (sli : ℕ) (kinds : List Kind) (split : Split) : Type 0 where
+  pub level : IsLevel sli
+  pub few : length kinds ≤ 64
+  pub cheapest : IsCheapest sli kinds split
 
 -- there is none
 abbrev pub HasNoSplit : ℕ → List Kind → Type 0

@@ -1,7 +1,6 @@
-ghost use Rattle.std.specs.Prelude.{◌≡◌, ◌≤◌, IfOk, OnOk};
+ghost use Rattle.std.specs.Prelude.{◌≡◌, IfOk, OnOk};
 ghost use Rattle.std.specs.Io.KnownBytes.{Appends};
-ghost use Rattle.tlsf_class.specs.Classes.{IsLevel, most_words};
-ghost use Rattle.tlsf_command.specs.ClassLines.{class_line, no_class_line};
+ghost use Rattle.tlsf_command.specs.ClassLines.{class_line, no_class_line, IsSize};
 ghost use Rattle.tlsf_lines.specs.Prefixes.{AppendsFront};
 
 use arrayvec::ArrayString;
@@ -15,9 +14,7 @@ const NO_CLASS: &str = "tlsf: a size has 4 to 1048576 words, and up to 16777216 
 
 // The line on a size of `words`, as `class 92 low 448 search 93 low 464`. It has at most 48 bytes.
 fn line_of<const SLI: u32>(words: u32) -> Result<ArrayString<64>, fmt::Error>
-    requires level { IsLevel SLI }
-    requires least { 4 ≤ words }
-    requires most { words ≤ most_words SLI }
+    requires { IsSize SLI words }
     ensures { IfOk result (λ line. line.bytes ≡ class_line SLI words) }
 {
     let class = class_of::<SLI>(words);
@@ -45,9 +42,7 @@ pub fn write_class_line<const SLI: u32, W: Write>(
     words: u32,
     writer: &mut W,
 ) -> Result<(), WriteError>
-    requires level { IsLevel SLI }
-    requires least { 4 ≤ words }
-    requires most { words ≤ most_words SLI }
+    requires { IsSize SLI words }
     ensures front { AppendsFront (W.contents writer.old) (W.contents writer.new)
         (class_line SLI words) }
     ensures ok { OnOk result (Appends (W.contents writer.old) (W.contents writer.new)

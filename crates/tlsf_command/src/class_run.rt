@@ -1,5 +1,5 @@
-ghost use Rattle.std.specs.Prelude.{◌≤◌, ℕ, List, Option};
-ghost use Rattle.tlsf_class.specs.Classes.{IsLevel, most_words};
+ghost use Rattle.std.specs.Prelude.{ℕ, List, Option};
+ghost use Rattle.tlsf_command.specs.ClassLines.{IsSize};
 ghost use Rattle.tlsf_command.specs.ClassQuestions.{HasClasses};
 ghost use Rattle.tlsf_command.specs.Runs.{streams, AnswersClasses, ShowsClasses};
 
@@ -15,9 +15,7 @@ fn show_classes<const SLI: u32, W: Write, E: Write>(
     writer: &mut W,
     errors: &mut E,
 ) -> u8
-    requires level { IsLevel SLI }
-    requires least { 4 ≤ words }
-    requires most { words ≤ most_words SLI }
+    requires { IsSize SLI words }
     ensures { (left : Option (List ℕ)) → ShowsClasses SLI words result
         (streams left (W.contents writer.old) (E.contents errors.old))
         (streams left (W.contents writer.new) (E.contents errors.new)) }

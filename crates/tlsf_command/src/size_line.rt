@@ -1,12 +1,11 @@
-ghost use Rattle.std.specs.Prelude.{◌≡◌, ◌≤◌, ◌<◌, ◌^◌, ◌↔◌, ℕ, [], ◌∷◌, length, IfOk, IfSome, IsTrue, Option, None, OnOk};
+ghost use Rattle.std.specs.Prelude.{◌≡◌, ◌≤◌, ◌<◌, ◌^◌, ◌↔◌, ℕ, [], ◌∷◌, IfOk, IfSome, IsTrue, Option, None, OnOk};
 ghost use Rattle.std.specs.List.{AllByRecursion};
 ghost use Rattle.std.specs.Io.KnownBytes.{Appends};
 ghost use Rattle.tlsf_class.specs.Classes.{IsLevel, most_words};
-ghost use Rattle.tlsf_command.specs.SizeLines.{size_line, unreached_line, AreReached, IsFiner, IsGreatest, IsReached, IsServable, IsSplitOf};
+ghost use Rattle.tlsf_command.specs.SizeLines.{size_line, unreached_line, AreKinds, AreReached, IsFiner, IsGreatest, IsReached, IsServable, IsSized, IsSplitOf};
 ghost use Rattle.tlsf_command.specs.SizeLines as spelled;
 ghost use Rattle.tlsf_pool.specs.laws.Kinds as table;
 ghost use Rattle.tlsf_pool.specs.declared.sizes.split.Split.{Split};
-ghost use Rattle.tlsf_pool.specs.sizes.Limits.{most_kinds};
 ghost use Rattle.tlsf_lines.specs.Prefixes.{AppendsFront};
 
 use crate::finer_hint::FinerHint;
@@ -50,8 +49,7 @@ pub fn are_servable<const SLI: u32>(kinds: &[Kind]) -> bool
 /// let words = words_for::<4>(&[Kind { most: 100, len: 512 }]);   // Some(13631)
 /// ```
 pub fn words_for<const SLI: u32>(kinds: &[Kind]) -> Option<u32>
-    requires level { IsLevel SLI }
-    requires few { length kinds.now ≤ most_kinds SLI }
+    requires { AreKinds SLI kinds.now }
     ensures some { IfSome result (λ words. AreReached SLI kinds.now × (words ≡ table.kinds_words SLI kinds.now)) }
     ensures none { result ≡ None → ¬ (AreReached SLI kinds.now) }
 {
@@ -79,10 +77,7 @@ pub fn asked_bytes(kinds: &[Kind]) -> u64
 
 // The line on a region of `words` for these kinds, as `words 13631 bytes 109048 ratio 2.13`.
 fn line_of<const SLI: u32>(kinds: &[Kind], words: u32) -> Result<ArrayString<96>, fmt::Error>
-    requires level { IsLevel SLI }
-    requires some { 0 < length kinds.now }
-    requires reached { AreReached SLI kinds.now }
-    requires law { words ≡ table.kinds_words SLI kinds.now }
+    requires { IsSized SLI kinds.now words }
     ensures { IfOk result (λ line. line.bytes ≡ size_line SLI kinds.now) }
 {
     let sized = RegionSize::new(words, asked_bytes(kinds));
@@ -103,10 +98,7 @@ pub fn write_size_line<const SLI: u32, W: Write>(
     words: u32,
     writer: &mut W,
 ) -> Result<(), WriteError>
-    requires level { IsLevel SLI }
-    requires some { 0 < length kinds.now }
-    requires reached { AreReached SLI kinds.now }
-    requires law { words ≡ table.kinds_words SLI kinds.now }
+    requires { IsSized SLI kinds.now words }
     ensures front { AppendsFront (W.contents writer.old) (W.contents writer.new)
         (size_line SLI kinds.now) }
     ensures ok { OnOk result (Appends (W.contents writer.old) (W.contents writer.new)

@@ -1,7 +1,7 @@
 ghost use Rattle.std.specs.Prelude.{◌≤◌, ◌<◌, ℕ, List, Option, length};
 ghost use Rattle.tlsf_class.specs.Classes.{IsLevel};
 ghost use Rattle.tlsf_command.specs.Runs.{streams, ReportsUnreached, ShowsHeaps, ShowsKinds, ShowsSize};
-ghost use Rattle.tlsf_command.specs.SizeLines.{AreReached};
+ghost use Rattle.tlsf_command.specs.SizeLines.{AreKinds, AreUnreached};
 ghost use Rattle.tlsf_command.specs.SizeQuestions.{HasKinds, HasTable};
 ghost use Rattle.tlsf_pool.specs.sizes.Limits.{most_kinds};
 
@@ -16,10 +16,7 @@ use tlsf_trace::TraceFault;
 
 // Reports that no region reaches so far. A write that fails changes nothing.
 fn report_unreached<const SLI: u32, E: Write>(kinds: &[Kind], errors: &mut E)
-    requires level { IsLevel SLI }
-    requires few { length kinds.now ≤ most_kinds SLI }
-    requires pairs { length kinds.now ≤ most_kinds 5 }
-    requires unreached { ¬ (AreReached SLI kinds.now) }
+    requires { AreUnreached SLI kinds.now }
     ensures { ReportsUnreached SLI kinds.now (E.contents errors.old) (E.contents errors.new) }
 {
     if kinds.len() == 1 {
@@ -35,9 +32,8 @@ fn show_kinds<const SLI: u32, W: Write, E: Write>(
     writer: &mut W,
     errors: &mut E,
 ) -> u8
-    requires level { IsLevel SLI }
+    requires kinds { AreKinds SLI kinds.now }
     requires some { 0 < length kinds.now }
-    requires few { length kinds.now ≤ most_kinds SLI }
     requires pairs { length kinds.now ≤ most_kinds 5 }
     ensures { (left : Option (List ℕ)) → ShowsKinds SLI kinds.now result
         (streams left (W.contents writer.old) (E.contents errors.old))

@@ -3,7 +3,7 @@ ghost use Rattle.std.specs.Prelude.{◌≡◌, ◌++◌, ◌-◌, ◌≤◌, ◌
 ghost use Rattle.std.specs.List.{AllByRecursion};
 ghost use Rattle.std.specs.Io.KnownBytes.{Appends};
 ghost use Rattle.tlsf_class.specs.Classes.{IsLevel};
-ghost use Rattle.tlsf_command.specs.SizeLines.{falling_line, heap_line, heap_lines, no_split_line, split_lines, HasNoSplit, IsCheapest, IsServable};
+ghost use Rattle.tlsf_command.specs.SizeLines.{falling_line, heap_line, heap_lines, no_split_line, split_lines, HasCheapest, HasNoSplit, IsCheapest, IsServable};
 ghost use Rattle.tlsf_command.specs.SizeLines as spelled;
 ghost use Rattle.tlsf_pool.specs.sizes.Rising.{len_at, IsFirstFall};
 ghost use Rattle.tlsf_pool.specs.sizes.Splits.{parts_of, IsPart};
@@ -86,9 +86,7 @@ fn add_heap_lines<const SLI: u32>(
     kinds: &[Kind],
     split: &Split,
 ) -> Result<(), fmt::Error>
-    requires level { IsLevel SLI }
-    requires few { length kinds.now ≤ 64 }
-    requires cheapest { IsCheapest SLI kinds.now split.now }
+    requires { HasCheapest SLI kinds.now split.now }
     ensures { OnOk result (lines.new.bytes ≡ lines.old.bytes ++ heap_lines SLI 0 0 (parts_of split.now kinds.now)) }
 {
     let mut left = kinds;
@@ -105,10 +103,8 @@ fn add_heap_lines<const SLI: u32>(
 
 // The lines on a split, and on all its heaps together.
 fn lines_of<const SLI: u32>(kinds: &[Kind], split: &Split) -> Result<Lines, fmt::Error>
-    requires level { IsLevel SLI }
+    requires has { HasCheapest SLI kinds.now split.now }
     requires some { 0 < length kinds.now }
-    requires few { length kinds.now ≤ 64 }
-    requires cheapest { IsCheapest SLI kinds.now split.now }
     ensures { IfOk result (λ lines. lines.bytes ≡ split_lines SLI (parts_of split.now kinds.now) kinds.now) }
 {
     let mut lines = ArrayString::new();
@@ -132,10 +128,8 @@ pub fn write_split_lines<const SLI: u32, W: Write>(
     split: &Split,
     writer: &mut W,
 ) -> Result<(), WriteError>
-    requires level { IsLevel SLI }
+    requires has { HasCheapest SLI kinds.now split.now }
     requires some { 0 < length kinds.now }
-    requires few { length kinds.now ≤ 64 }
-    requires cheapest { IsCheapest SLI kinds.now split.now }
     ensures front { AppendsFront (W.contents writer.old) (W.contents writer.new)
         (split_lines SLI (parts_of split.now kinds.now) kinds.now) }
     ensures ok { OnOk result (Appends (W.contents writer.old) (W.contents writer.new)

@@ -1,8 +1,6 @@
-ghost use Rattle.std.specs.Prelude.{◌≡◌, ◌≤◌, ◌<◌, ℕ, Option, Some, length, slice_get, IfOk};
-ghost use Rattle.tlsf_class.specs.Classes.{IsLevel};
-ghost use Rattle.tlsf_command.specs.SizeLines.{unpaired_line, unreached_table_line, AreReached, IsFiner, IsFirstUnreached, IsSplitOf};
+ghost use Rattle.std.specs.Prelude.{◌≡◌, ◌<◌, ℕ, Option, Some, length, slice_get, IfOk};
+ghost use Rattle.tlsf_command.specs.SizeLines.{unpaired_line, unreached_table_line, AreKinds, AreReached, AreUnreached, IsFiner, IsFirstUnreached, IsSplitOf};
 ghost use Rattle.tlsf_pool.specs.declared.kind.Kind.{Kind};
-ghost use Rattle.tlsf_pool.specs.sizes.Limits.{most_kinds};
 ghost use Rattle.tlsf_pool.specs.declared.sizes.split.Split.{Split};
 ghost use Rattle.tlsf_lines.specs.Prefixes.{AppendsFront};
 
@@ -20,8 +18,7 @@ use tlsf_trace::{WriteError, write_out};
 
 // How many kinds at the front of the table are reached, where the table is not.
 fn reached_kinds<const SLI: u32>(kinds: &[Kind]) -> usize
-    requires level { IsLevel SLI }
-    requires few { length kinds.now ≤ most_kinds SLI }
+    requires kinds { AreKinds SLI kinds.now }
     requires unreached { ¬ (AreReached SLI kinds.now) }
     ensures below { result < length kinds.now }
     ensures first { (next : Kind) → slice_get kinds.now result ≡ Some next → IsFirstUnreached SLI kinds.now result next }
@@ -74,10 +71,7 @@ pub fn write_unreached_table_line<const SLI: u32, E: Write>(
     kinds: &[Kind],
     errors: &mut E,
 ) -> Result<(), WriteError>
-    requires level { IsLevel SLI }
-    requires few { length kinds.now ≤ most_kinds SLI }
-    requires pairs { length kinds.now ≤ most_kinds 5 }
-    requires unreached { ¬ (AreReached SLI kinds.now) }
+    requires { AreUnreached SLI kinds.now }
     ensures { (reached : ℕ) × (next : Kind) × (split : Option Split) × (finer : Option ℕ) × IsFirstUnreached SLI kinds.now reached next
         × IsSplitOf SLI kinds.now split × IsFiner kinds.now finer
         × AppendsFront (E.contents errors.old) (E.contents errors.new) (unreached_table_line reached next split finer) }
