@@ -12,7 +12,7 @@ use Rattle.tlsf_heap.specs.GoodFit.{Site, site_at, place_of}
 use Rattle.tlsf_heap.specs.FreePlaces.{AreFreeLists, AreMarked}
 use Rattle.tlsf_heap.specs.Image.{Image, back_behind, Shows}
 use Rattle.tlsf_heap.specs.Lawful.{IsRegion}
-use Rattle.tlsf_heap.specs.Footprint.{LeavesLive}
+use Rattle.tlsf_heap.specs.Footprint.{LeavesLive, LeavesPayloads}
 
 -- the view of a region: how many words it has, its blocks, and for each class the places in its free list, from the head. Also the
 -- classes whose bits are set, the words that are stored in it, the memory that it has, and its touches
@@ -165,6 +165,14 @@ pub record Edits (old new : RegionState) (most : ℕ) : Type 0 where
   pub stays : new.extents ≡ old.extents
   pub touches : new.touches ≤ old.touches + most
   pub rise : old.touches ≤ new.touches
+
+-- each class has the list of its free blocks again. The touches rise by `most` at most, and lie in `many` groups of eight words. None
+-- is of a live block's payload, but for the block at a place
+pub record Relists (sli at most many : ℕ) (old new : RegionState) : Type 0 where
+  pub listed : AreFreeLists sli new.blocks (list_in new.lists)
+  pub edits : Edits old new most
+  pub touched : LeavesPayloads old.blocks at old.touched new.touched
+  pub groups : InGroups many old.touched new.touched
 
 -- the words show these blocks in place of the old, and each class has the list that it had
 pub record Rewrites (old new : RegionState) (left : List Block) (most : ℕ) : Type 0 where

@@ -3,7 +3,7 @@ ghost use Rattle.std.specs.Prelude.{◌≡◌, ◌≢◌, ℕ, ◌+◌, ◌-◌,
 ghost use Rattle.std.specs.List.{AllByRecursion};
 ghost use Rattle.tlsf_heap.specs.Blocks.{size_of, words_in, payload_words, is_free, stamps, want, StandsAt};
 ghost use Rattle.tlsf_class.specs.Classes.{IsLevel, most_words, class_of};
-ghost use Rattle.tlsf_heap.specs.Regions.{AreRegions, EachAt, HasAt, IsTagOf, IsNextTag, IsPreviousTag, AreTagsAround, AreNeighbours, AreUnlisted, IsWithout, MovedToFront, withheld_alone, list_in, OnlyReads, IsInOrder, AwaitsTick, Edits};
+ghost use Rattle.tlsf_heap.specs.Regions.{AreRegions, EachAt, HasAt, IsTagOf, IsNextTag, IsPreviousTag, AreTagsAround, AreNeighbours, AreUnlisted, IsWithout, MovedToFront, withheld_alone, list_in, OnlyReads, IsInOrder, AwaitsTick, Edits, Relists};
 ghost use Rattle.tlsf_heap.specs.Footprint.{LeavesLive, LeavesPayloads};
 ghost use Rattle.tlsf_heap.specs.GoodFit.{block_at};
 ghost use Rattle.tlsf_heap.specs.Headers.{IsRest};
@@ -169,10 +169,7 @@ pub fn coalesce<const SLI: u32>(region: &mut Region<SLI>, tick: &mut u64, at: u3
     requires own { EachAt region.old.blocks at (λ s. IsTagOf region.old.words s own) }
     requires left { tick.old ≢ last_tick }
     ensures blocks { EachAt region.old.blocks at (λ s. region.new.blocks ≡ coalesced tick.old s) }
-    ensures listed { AreFreeLists SLI region.new.blocks (list_in region.new.lists) }
-    ensures edits { Edits region.old region.new 27 }
-    ensures touched { LeavesPayloads region.old.blocks at region.old.touched region.new.touched }
-    ensures groups { InGroups 13 region.old.touched region.new.touched }
+    ensures relists { Relists SLI at 27 13 region.old region.new }
     ensures tick { tick.new ≡ tick.old + 1 }
 {
     let next = next_tag(region, at, own);
@@ -241,10 +238,7 @@ fn merge_next<const SLI: u32>(region: &mut Region<SLI>, next: Tag, own: Tag, tic
     requires some { next.free ≡ true }
     requires none { EachAt region.old.blocks at (λ s. last_free s.before ≡ 0) }
     ensures blocks { EachAt region.old.blocks at (λ s. region.new.blocks ≡ coalesced tick s) }
-    ensures listed { AreFreeLists SLI region.new.blocks (list_in region.new.lists) }
-    ensures edits { Edits region.old region.new 25 }
-    ensures touched { LeavesPayloads region.old.blocks at region.old.touched region.new.touched }
-    ensures groups { InGroups 11 region.old.touched region.new.touched }
+    ensures relists { Relists SLI at 25 11 region.old region.new }
 {
     let after = next.size();
     region.remove(after, at + own.size());
@@ -269,10 +263,7 @@ fn merge_before<const SLI: u32>(
     requires tags { EachAt region.old.blocks at (λ s. AreTagsAround region.old.words s own next previous) }
     requires some { previous.free ≡ true }
     ensures blocks { EachAt region.old.blocks at (λ s. region.new.blocks ≡ coalesced tick s) }
-    ensures listed { AreFreeLists SLI region.new.blocks (list_in region.new.lists) }
-    ensures edits { Edits region.old region.new 25 }
-    ensures touched { LeavesPayloads region.old.blocks at region.old.touched region.new.touched }
-    ensures groups { InGroups 11 region.old.touched region.new.touched }
+    ensures relists { Relists SLI at 25 11 region.old region.new }
 {
     if next.is_free() {
         merge_both(region, next, previous, tick, at, own);
@@ -299,10 +290,7 @@ fn merge_both<const SLI: u32>(
     requires some { next.free ≡ true }
     requires both { previous.free ≡ true }
     ensures blocks { EachAt region.old.blocks at (λ s. region.new.blocks ≡ coalesced tick s) }
-    ensures listed { AreFreeLists SLI region.new.blocks (list_in region.new.lists) }
-    ensures edits { Edits region.old region.new 25 }
-    ensures touched { LeavesPayloads region.old.blocks at region.old.touched region.new.touched }
-    ensures groups { InGroups 11 region.old.touched region.new.touched }
+    ensures relists { Relists SLI at 25 11 region.old region.new }
 {
     let after = next.size();
     region.remove(after, at + own.size());

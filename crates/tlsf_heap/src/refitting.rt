@@ -9,7 +9,7 @@ ghost use Rattle.tlsf_heap.specs.Blocks.{is_free, bytes_of, words_for};
 ghost use Rattle.tlsf_heap.specs.Calls;
 ghost use Rattle.tlsf_heap.specs.FreePlaces.{AreFreeLists};
 ghost use Rattle.tlsf_heap.specs.Footprint.{LeavesLive, LeavesPayloads};
-ghost use Rattle.tlsf_heap.specs.Regions.{EachAt, HasAt, IsTagOf, IsTagBehind, list_in, OnlyReads, IsInOrder, AwaitsTick, Edits};
+ghost use Rattle.tlsf_heap.specs.Regions.{EachAt, HasAt, IsTagOf, IsTagBehind, list_in, OnlyReads, IsInOrder, AwaitsTick, Edits, Relists};
 ghost use Rattle.tlsf_heap.specs.WordsInUse.{words_used};
 
 use crate::fitting::next_tag;
@@ -77,10 +77,7 @@ fn recut<const SLI: u32>(
     ensures least { words ≤ result }
     ensures cut { words + 4 ≤ own.size + next.size → result ≡ words }
     ensures used { words_used region.new.blocks + own.size ≡ words_used region.old.blocks + result }
-    ensures listed { AreFreeLists SLI region.new.blocks (list_in region.new.lists) }
-    ensures edits { Edits region.old region.new 20 }
-    ensures touched { LeavesPayloads region.old.blocks at region.old.touched region.new.touched }
-    ensures groups { InGroups 9 region.old.touched region.new.touched }
+    ensures relists { Relists SLI at 20 9 region.old region.new }
 {
     forget(region, at + own.size(), next.size());
     let rest = region.recut(at, own, next, words, tick);
@@ -179,10 +176,7 @@ fn split_off<const SLI: u32>(region: &mut Region<SLI>, at: u32, own: Tag, words:
     requires less { words + 4 ≤ own.size }
     ensures blocks { EachAt region.old.blocks at (λ s. region.new.blocks ≡ s.before ++ Calls.recut tick words s.block s.after) }
     ensures used { words_used region.new.blocks + own.size ≡ words_used region.old.blocks + words }
-    ensures listed { AreFreeLists SLI region.new.blocks (list_in region.new.lists) }
-    ensures edits { Edits region.old region.new 21 }
-    ensures touched { LeavesPayloads region.old.blocks at region.old.touched region.new.touched }
-    ensures groups { InGroups 10 region.old.touched region.new.touched }
+    ensures relists { Relists SLI at 21 10 region.old region.new }
 {
     let next = look_behind(region, at, own);
     recut(region, at, own, next, words, tick);

@@ -1,7 +1,7 @@
-use Rattle.tlsf_heap.proofs.Common.{List, ◌≡◌, ℕ, ◌+◌, ◌-◌, true, suc, take, drop, refl, sym, ap, ◌∙◌, subst, arith, class_of, size_of, is_free, StandsAt, first_free, last_free, block_at, AreUnlisted, list_in, Block, IsLiveWord}
+use Rattle.tlsf_heap.proofs.Common.{List, ◌≡◌, ℕ, ◌+◌, ◌-◌, true, suc, take, drop, refl, sym, ap, ◌∙◌, subst, arith, class_of, size_of, is_free, StandsAt, first_free, last_free, block_at, AreUnlisted, list_in, Block, IsLiveWord, IsOthersWord, RegionState, OnlyReads, LeavesLive, InGroups, Relists, rules}
 use Rattle.tlsf_heap.proofs.lemmas.lists.Withheld.{is_between, nothing_out, size_region, rest_unlisted, withheld_listed, merged_free, merged_listed}
 use Rattle.tlsf_heap.proofs.lemmas.blocks.Around.{one_index}
-use Rattle.tlsf_heap.proofs.lemmas.words.Footprint.{others_last}
+use Rattle.tlsf_heap.proofs.lemmas.words.Footprint.{others_last, any_word}
 use Rattle.tlsf_words.proofs.Touching.{more_groups, groups_then}
 use Rattle.tlsf_heap.proofs.fitting.coalesce.Goals as goal
 
@@ -62,8 +62,8 @@ push-requires g c =
       ),
     )
 
-pub returns-clause-listed : goal.returns-clause-listed
-returns-clause-listed g c =
+pub returns-clause-relists : goal.returns-clause-relists
+returns-clause-relists g c =
     let live = c.requires.live in
     let f = is_between g.row.SLI live c.requires.region in
     let next = c.next_tag-next.ensures in
@@ -82,49 +82,40 @@ returns-clause-listed g c =
     let here : c.args.at - last_free (take live.0 c.args.region.now.blocks) ≡ c.args.at = omega (arith, none_ahead) in
     let is = c.requires.own live.0 live.1 in
     let bs = c.args.region.now.blocks in
+    let word : (k : ℕ) → IsOthersWord bs c.args.at k → IsLiveWord bs k = any_word bs c.args.at in
     let size : c.size.result ≡ last_free (take live.0 bs) + size_of (block_at bs live.0) + first_free (drop (suc live.0) bs) = omega (arith, c.size.ensures.value, is.size, none_ahead, none_behind) in
-    merged_listed g.row.SLI f left c.push.new.self.blocks (c.push.ensures.blocks ∙ change.blocks) c.class_of.result (list_in c.free.new.self.lists) (list_in c.push.new.self.lists)
-    (c.class_of.ensures ∙ ap (class_of g.row.SLI) size) (λ class. refl) (rw here c.push.ensures.list) c.push.ensures.others
+    record {
+      listed = merged_listed g.row.SLI f left c.push.new.self.blocks (c.push.ensures.blocks ∙ change.blocks) c.class_of.result (list_in c.free.new.self.lists) (list_in c.push.new.self.lists)
+          (c.class_of.ensures ∙ ap (class_of g.row.SLI) size) (λ class. refl) (rw here c.push.ensures.list) c.push.ensures.others;
+      edits = search rules;
+      touched = λ k o. c.push.ensures.touched k (subst (λ (l : List Block). IsLiveWord l k) (sym change.blocks) (others_last c.args.tick.now bs c.args.at live.0 k live.1 o))
+          ∙ (rw blocks at c.free.ensures.touched) k (word k o) ∙ (rw next.reads.blocks at previous.touched) k (word k o) ∙ next.touched k (word k o);
+      groups = more_groups (omega arith) (groups_then (groups_then (groups_then next.groups previous.groups) c.free.ensures.groups) c.push.ensures.groups);
+    }
 
-pub returns-clause-touched : goal.returns-clause-touched
-returns-clause-touched g c k o =
-    let live = c.requires.live in
-    let next = c.next_tag-next.ensures in
-    let previous = c.previous_tag-previous.ensures in
-    let blocks = previous.reads.blocks ∙ next.reads.blocks in
-    let change = (rw blocks at c.free.ensures.change) live.0 live.1 in
-    let word : IsLiveWord c.args.region.now.blocks k = (o.0, o.1, o.2, o.3) in
-    c.push.ensures.touched k (subst (λ (bs : List Block). IsLiveWord bs k) (sym change.blocks) (others_last c.args.tick.now c.args.region.now.blocks c.args.at live.0 k live.1 o))
-    ∙ (rw blocks at c.free.ensures.touched) k word
-    ∙ (rw next.reads.blocks at previous.touched) k word
-    ∙ next.touched k word
+-- ---- a neighbour is free
 
-pub returns-clause-groups : goal.returns-clause-groups
-returns-clause-groups g c =
-    more_groups (omega arith) (groups_then (groups_then (groups_then c.next_tag-next.ensures.groups c.previous_tag-previous.ensures.groups) c.free.ensures.groups) c.push.ensures.groups)
+-- both tags are read, and then the blocks become one
+merged_after : {sli at few many : ℕ} {first next last new : RegionState} → OnlyReads first next 1 → OnlyReads next last 1 → LeavesLive first.blocks first.touched next.touched → LeavesLive next.blocks next.touched last.touched
+    → InGroups 1 first.touched next.touched → InGroups 1 next.touched last.touched → Relists sli at few many last new → Relists sli at (few + 2) (1 + 1 + many) first new
+merged_after {at = at} {first = first} a b spared spared_too one two done =
+    let blocks = b.blocks ∙ a.blocks in
+    let e = done.edits in
+    record {
+      listed = done.listed;
+      edits = record { words = e.words ∙ b.words ∙ a.words; shows = e.shows; linked = e.linked; bits = e.bits; stays = e.stays ∙ b.stays ∙ a.stays; touches = omega (arith, e.touches, a.touches, b.touches); rise = omega (arith, e.rise, a.rise, b.rise) };
+      touched = λ k o. (rw blocks at done.touched) k o ∙ (rw a.blocks at spared_too) k (any_word first.blocks at k o) ∙ spared k (any_word first.blocks at k o);
+      groups = groups_then (groups_then one two) done.groups;
+    }
 
--- ---- the block before is free
+pub returns-then-is_free-clause-relists : goal.returns-then-is_free-clause-relists
+returns-then-is_free-clause-relists g c =
+    let a = c.next_tag-next.ensures in
+    let b = c.previous_tag-previous.ensures in
+    merged_after a.reads b.reads a.touched b.touched a.groups b.groups c.merge_before.ensures.relists
 
-pub returns-then-is_free-clause-touched : goal.returns-then-is_free-clause-touched
-returns-then-is_free-clause-touched g c k o =
-    let next = c.next_tag-next.ensures in
-    let previous = c.previous_tag-previous.ensures in
-    let blocks = previous.reads.blocks ∙ next.reads.blocks in
-    let word : IsLiveWord c.args.region.now.blocks k = (o.0, o.1, o.2, o.3) in
-    (rw blocks at c.merge_before.ensures.touched) k o ∙ (rw next.reads.blocks at previous.touched) k word ∙ next.touched k word
-
-pub returns-then-is_free-clause-groups : goal.returns-then-is_free-clause-groups
-returns-then-is_free-clause-groups g c = groups_then (groups_then c.next_tag-next.ensures.groups c.previous_tag-previous.ensures.groups) c.merge_before.ensures.groups
-
--- ---- only the block after is
-
-pub returns-then-is_free-2-clause-touched : goal.returns-then-is_free-2-clause-touched
-returns-then-is_free-2-clause-touched g c k o =
-    let next = c.next_tag-next.ensures in
-    let previous = c.previous_tag-previous.ensures in
-    let blocks = previous.reads.blocks ∙ next.reads.blocks in
-    let word : IsLiveWord c.args.region.now.blocks k = (o.0, o.1, o.2, o.3) in
-    (rw blocks at c.merge_next.ensures.touched) k o ∙ (rw next.reads.blocks at previous.touched) k word ∙ next.touched k word
-
-pub returns-then-is_free-2-clause-groups : goal.returns-then-is_free-2-clause-groups
-returns-then-is_free-2-clause-groups g c = groups_then (groups_then c.next_tag-next.ensures.groups c.previous_tag-previous.ensures.groups) c.merge_next.ensures.groups
+pub returns-then-is_free-2-clause-relists : goal.returns-then-is_free-2-clause-relists
+returns-then-is_free-2-clause-relists g c =
+    let a = c.next_tag-next.ensures in
+    let b = c.previous_tag-previous.ensures in
+    merged_after a.reads b.reads a.touched b.touched a.groups b.groups c.merge_next.ensures.relists

@@ -1,4 +1,4 @@
-use Rattle.tlsf_heap.proofs.Common.{◌≡◌, ℕ, ◌+◌, ◌-◌, ◌∷◌, refl, sym, ap, ◌∙◌, subst, arith, class_of, list_in}
+use Rattle.tlsf_heap.proofs.Common.{rules, ◌≡◌, ℕ, ◌+◌, ◌-◌, ◌∷◌, refl, sym, ap, ◌∙◌, subst, arith, class_of, list_in}
 use Rattle.tlsf_class.proofs.TwoLevels.{most_words_any}
 use Rattle.tlsf_heap.proofs.lemmas.words.Free.{with_previous_are}
 use Rattle.tlsf_heap.proofs.lemmas.lists.Withheld.{tagged, ahead_is, ahead_region, ahead_out, nothing_out, end_within, before_within, contains_previous, withheld_listed, rest_unlisted, merged_listed}
@@ -40,8 +40,8 @@ take_in-requires g c =
       ),
     )
 
-pub returns-clause-listed : goal.returns-clause-listed
-returns-clause-listed g c =
+pub returns-clause-relists : goal.returns-clause-relists
+returns-clause-relists g c =
     let t = tagged g.row.SLI c.requires.live c.requires.tags c.requires.region in
     let unfree = sym c.is_free.ensures ∙ c.if-is_free.false in
     let some = c.requires.some in
@@ -52,8 +52,10 @@ returns-clause-listed g c =
     let lists = c.take_in.ensures.lists in
     let left = withheld_listed g.row.SLI t.between out (ahead_out g.row.SLI t some c.size-before.ensures.value lists.without) (λ class. refl) t.i t.between.stands in
     let new = c.take_in.new.region in
-    merged_listed g.row.SLI t.between left new.blocks (c.take_in.ensures.blocks t.i t.between.stands) (class_of g.row.SLI c.with_previous-whole.result.size) lists.left (list_in new.lists) (ap (class_of g.row.SLI) are.size) (λ class. refl)
-    (subst (λ (n : ℕ). list_in new.lists (class_of g.row.SLI c.with_previous-whole.result.size) ≡ (c.args.at - n) ∷ lists.left (class_of g.row.SLI c.with_previous-whole.result.size)) ahead lists.list) lists.others
-
-pub returns-clause-groups : goal.returns-clause-groups
-returns-clause-groups g c = more_groups (omega arith) c.take_in.ensures.groups
+    record {
+      listed = merged_listed g.row.SLI t.between left new.blocks (c.take_in.ensures.blocks t.i t.between.stands) (class_of g.row.SLI c.with_previous-whole.result.size) lists.left (list_in new.lists) (ap (class_of g.row.SLI) are.size) (λ class. refl)
+          (subst (λ (n : ℕ). list_in new.lists (class_of g.row.SLI c.with_previous-whole.result.size) ≡ (c.args.at - n) ∷ lists.left (class_of g.row.SLI c.with_previous-whole.result.size)) ahead lists.list) lists.others;
+      edits = search rules;
+      touched = c.take_in.ensures.touched;
+      groups = more_groups (omega arith) c.take_in.ensures.groups;
+    }

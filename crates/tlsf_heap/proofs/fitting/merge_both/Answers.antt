@@ -149,8 +149,9 @@ pub returns-clause-blocks : goal.returns-clause-blocks
 returns-clause-blocks g c =
     let blocks = c.remove-2.ensures.blocks ∙ c.remove.ensures.blocks in λ i stands. c.push.ensures.blocks ∙ ((rw blocks at c.merge.ensures.change) i stands).blocks
 
-pub returns-clause-listed : goal.returns-clause-listed
-returns-clause-listed g c =
+pub returns-clause-relists : goal.returns-clause-relists
+returns-clause-relists g c =
+    let bs = c.args.region.now.blocks in
     let t = tagged g.row.SLI c.requires.live c.requires.tags c.requires.region in
     let next_free = c.requires.some in
     let previous_free = c.requires.both in
@@ -159,29 +160,16 @@ returns-clause-listed g c =
     let out_too = ahead_out g.row.SLI t previous_free c.size-before.ensures.value (was_taken c.remove.new.self.lists refl c.remove-2.ensures) in
     let blocks = c.remove-2.ensures.blocks ∙ c.remove.ensures.blocks in
     let change = (rw blocks at c.merge.ensures.change) t.i t.between.stands in
-    let left = withheld_listed g.row.SLI t.between out out_too change.lists t.i t.between.stands in
-    let size : c.size-2.result ≡ last_free (take t.i c.args.region.now.blocks) + size_of (block_at c.args.region.now.blocks t.i) + first_free (drop (suc t.i) c.args.region.now.blocks) =
-    omega (arith, c.size-2.ensures.value, c.with_previous-whole.ensures.size, c.with_next.ensures.size, t.tags.is_own.size, t.tags.is_next.size next_free, t.tags.is_previous.size previous_free) in
-    let place : c.args.at - last_free (take t.i c.args.region.now.blocks) ≡ c.args.at - c.size-before.result = ap (λ (n : ℕ). c.args.at - n) (sym ahead) in
-    merged_listed g.row.SLI t.between left c.push.new.self.blocks (c.push.ensures.blocks ∙ change.blocks) c.class_of.result (list_in c.merge.new.self.lists) (list_in c.push.new.self.lists) (c.class_of.ensures ∙ ap (class_of g.row.SLI) size) (λ class. refl)
-    (rw place c.push.ensures.list) c.push.ensures.others
-
-pub returns-clause-edits : goal.returns-clause-edits
-returns-clause-edits g c =
-    let t = tagged g.row.SLI c.requires.live c.requires.tags c.requires.region in
-    let blocks = c.remove-2.ensures.blocks ∙ c.remove.ensures.blocks in
     let merged = (c.merge.ensures.change t.i (rw blocks t.between.stands)).edits in
-    edits_both (omega arith) c.remove.ensures.edits (edits_both {most = 19} (omega arith) c.remove-2.ensures.edits (edits_both {most = 13} (omega arith) merged c.push.ensures.edits))
-
-pub returns-clause-touched : goal.returns-clause-touched
-returns-clause-touched g c k o =
-    let live = c.requires.live in
-    let bs = c.args.region.now.blocks in
-    let blocks = c.remove-2.ensures.blocks ∙ c.remove.ensures.blocks in
-    let change = (rw blocks at c.merge.ensures.change) live.0 live.1 in
-    let word = any_word bs c.args.at k o in
-    c.push.ensures.touched k (subst (λ (l : List Block). IsLiveWord l k) (sym change.blocks) (others_last c.args.tick bs c.args.at live.0 k live.1 o))
-    ∙ (rw blocks at c.merge.ensures.touched) k word ∙ (rw c.remove.ensures.blocks at c.remove-2.ensures.touched) k word ∙ c.remove.ensures.touched k word
-
-pub returns-clause-groups : goal.returns-clause-groups
-returns-clause-groups g c = groups_then (groups_then (groups_then c.remove.ensures.groups c.remove-2.ensures.groups) c.merge.ensures.groups) c.push.ensures.groups
+    let left = withheld_listed g.row.SLI t.between out out_too change.lists t.i t.between.stands in
+    let size : c.size-2.result ≡ last_free (take t.i bs) + size_of (block_at bs t.i) + first_free (drop (suc t.i) bs) =
+    omega (arith, c.size-2.ensures.value, c.with_previous-whole.ensures.size, c.with_next.ensures.size, t.tags.is_own.size, t.tags.is_next.size next_free, t.tags.is_previous.size previous_free) in
+    let place : c.args.at - last_free (take t.i bs) ≡ c.args.at - c.size-before.result = ap (λ (n : ℕ). c.args.at - n) (sym ahead) in
+    record {
+      listed = merged_listed g.row.SLI t.between left c.push.new.self.blocks (c.push.ensures.blocks ∙ change.blocks) c.class_of.result (list_in c.merge.new.self.lists) (list_in c.push.new.self.lists) (c.class_of.ensures ∙ ap (class_of g.row.SLI) size) (λ class. refl)
+          (rw place c.push.ensures.list) c.push.ensures.others;
+      edits = edits_both (omega arith) c.remove.ensures.edits (edits_both {most = 19} (omega arith) c.remove-2.ensures.edits (edits_both {most = 13} (omega arith) merged c.push.ensures.edits));
+      touched = λ k o. c.push.ensures.touched k (subst (λ (l : List Block). IsLiveWord l k) (sym change.blocks) (others_last c.args.tick bs c.args.at t.i k t.between.stands o))
+          ∙ (rw blocks at c.merge.ensures.touched) k (any_word bs c.args.at k o) ∙ (rw c.remove.ensures.blocks at c.remove-2.ensures.touched) k (any_word bs c.args.at k o) ∙ c.remove.ensures.touched k (any_word bs c.args.at k o);
+      groups = groups_then (groups_then (groups_then c.remove.ensures.groups c.remove-2.ensures.groups) c.merge.ensures.groups) c.push.ensures.groups;
+    }

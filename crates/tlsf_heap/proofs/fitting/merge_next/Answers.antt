@@ -92,33 +92,23 @@ push-requires g c =
       ),
     )
 
-pub returns-clause-listed : goal.returns-clause-listed
-returns-clause-listed g c =
+pub returns-clause-relists : goal.returns-clause-relists
+returns-clause-relists g c =
+    let bs = c.args.region.now.blocks in
     let t = tagged_next g.row.SLI c.requires.live c.requires.own c.requires.next c.requires.none c.requires.region in
     let next_free = c.requires.some in
     let none = c.requires.none t.i t.between.stands in
     let change = (rw c.remove.ensures.blocks at c.merge.ensures.change) t.i t.between.stands in
-    let left = withheld_listed g.row.SLI t.between (behind_out g.row.SLI t next_free c.size-after.ensures.value c.size.ensures.value c.remove.ensures) (nothing_out g.row.SLI none) change.lists t.i t.between.stands in
-    let here : c.args.at - last_free (take t.i c.args.region.now.blocks) ≡ c.args.at = omega (arith, none) in
-    let size : c.size-2.result ≡ last_free (take t.i c.args.region.now.blocks) + size_of (block_at c.args.region.now.blocks t.i) + first_free (drop (suc t.i) c.args.region.now.blocks) =
-    omega (arith, c.size-2.ensures.value, c.with_next-whole.ensures.size, t.tags.is_own.size, t.tags.is_next.size next_free, none) in
-    merged_listed g.row.SLI t.between left c.push.new.self.blocks (c.push.ensures.blocks ∙ change.blocks) c.class_of.result (list_in c.merge.new.self.lists) (list_in c.push.new.self.lists) (c.class_of.ensures ∙ ap (class_of g.row.SLI) size) (λ class. refl)
-    (rw here c.push.ensures.list) c.push.ensures.others
-
-pub returns-clause-edits : goal.returns-clause-edits
-returns-clause-edits g c =
-    let t = tagged_next g.row.SLI c.requires.live c.requires.own c.requires.next c.requires.none c.requires.region in
     let merged = (c.merge.ensures.change t.i (rw c.remove.ensures.blocks t.between.stands)).edits in
-    edits_both (omega arith) c.remove.ensures.edits (edits_both {most = 13} (omega arith) merged c.push.ensures.edits)
-
-pub returns-clause-touched : goal.returns-clause-touched
-returns-clause-touched g c k o =
-    let live = c.requires.live in
-    let bs = c.args.region.now.blocks in
-    let change = (rw c.remove.ensures.blocks at c.merge.ensures.change) live.0 live.1 in
-    let word = any_word bs c.args.at k o in
-    c.push.ensures.touched k (subst (λ (l : List Block). IsLiveWord l k) (sym change.blocks) (others_last c.args.tick bs c.args.at live.0 k live.1 o))
-    ∙ (rw c.remove.ensures.blocks at c.merge.ensures.touched) k word ∙ c.remove.ensures.touched k word
-
-pub returns-clause-groups : goal.returns-clause-groups
-returns-clause-groups g c = more_groups (omega arith) (groups_then (groups_then c.remove.ensures.groups c.merge.ensures.groups) c.push.ensures.groups)
+    let left = withheld_listed g.row.SLI t.between (behind_out g.row.SLI t next_free c.size-after.ensures.value c.size.ensures.value c.remove.ensures) (nothing_out g.row.SLI none) change.lists t.i t.between.stands in
+    let here : c.args.at - last_free (take t.i bs) ≡ c.args.at = omega (arith, none) in
+    let size : c.size-2.result ≡ last_free (take t.i bs) + size_of (block_at bs t.i) + first_free (drop (suc t.i) bs) =
+    omega (arith, c.size-2.ensures.value, c.with_next-whole.ensures.size, t.tags.is_own.size, t.tags.is_next.size next_free, none) in
+    record {
+      listed = merged_listed g.row.SLI t.between left c.push.new.self.blocks (c.push.ensures.blocks ∙ change.blocks) c.class_of.result (list_in c.merge.new.self.lists) (list_in c.push.new.self.lists) (c.class_of.ensures ∙ ap (class_of g.row.SLI) size) (λ class. refl)
+          (rw here c.push.ensures.list) c.push.ensures.others;
+      edits = edits_both (omega arith) c.remove.ensures.edits (edits_both {most = 13} (omega arith) merged c.push.ensures.edits);
+      touched = λ k o. c.push.ensures.touched k (subst (λ (l : List Block). IsLiveWord l k) (sym change.blocks) (others_last c.args.tick bs c.args.at t.i k t.between.stands o))
+          ∙ (rw c.remove.ensures.blocks at c.merge.ensures.touched) k (any_word bs c.args.at k o) ∙ c.remove.ensures.touched k (any_word bs c.args.at k o);
+      groups = more_groups (omega arith) (groups_then (groups_then c.remove.ensures.groups c.merge.ensures.groups) c.push.ensures.groups);
+    }

@@ -62,14 +62,14 @@ returns-clause-listed g c =
     let room = room_here c.requires.own c.requires.next c.requires.room live.1 in
     let stands = recut_stands live.1 live.2 c.args.tick room (c.recut-left.ensures.blocks live.0 live.1) in
     let set = c.set_payload.ensures.change live.0 stands in
-    rebytes_listed g.row.SLI stands (fitted (bytes_of (block_at c.recut-left.new.region.blocks live.0)) c.args.len) set.blocks (list_in c.recut-left.new.region.lists) (list_in c.set_payload.new.self.lists) set.lists c.recut-left.ensures.listed
+    rebytes_listed g.row.SLI stands (fitted (bytes_of (block_at c.recut-left.new.region.blocks live.0)) c.args.len) set.blocks (list_in c.recut-left.new.region.lists) (list_in c.set_payload.new.self.lists) set.lists c.recut-left.ensures.relists.listed
 
 pub returns-clause-edits : goal.returns-clause-edits
 returns-clause-edits g c =
     let live = c.requires.live in
     let room = room_here c.requires.own c.requires.next c.requires.room live.1 in
     let set = (c.set_payload.ensures.change live.0 (recut_stands live.1 live.2 c.args.tick room (c.recut-left.ensures.blocks live.0 live.1))).edits in
-    let cut = c.recut-left.ensures.edits in
+    let cut = c.recut-left.ensures.relists.edits in
     record { words = set.words ∙ cut.words; shows = set.shows; linked = set.linked; bits = set.bits; stays = set.stays ∙ cut.stays; touches = omega (arith, set.touches, cut.touches); rise = omega (arith, set.rise, cut.rise) }
 
 pub returns-clause-grown : goal.returns-clause-grown
@@ -78,7 +78,7 @@ returns-clause-grown g c i stands =
     let room = room_here c.requires.own c.requires.next c.requires.room stands in
     let is = c.recut-left.ensures.blocks i stands in
     let set = c.set_payload.ensures.grown i (recut_stands stands live c.args.tick room is) in
-    omega (arith, set, ap (λ (l : List ℕ). words_for (length l)) (recut_bytes stands live c.args.tick room is), c.recut-left.ensures.edits.touches)
+    omega (arith, set, ap (λ (l : List ℕ). words_for (length l)) (recut_bytes stands live c.args.tick room is), c.recut-left.ensures.relists.edits.touches)
 
 pub returns-clause-touched : goal.returns-clause-touched
 returns-clause-touched g c k o =
@@ -86,7 +86,7 @@ returns-clause-touched g c k o =
     let bs = c.args.region.now.blocks in
     let room = room_here c.requires.own c.requires.next c.requires.room live.1 in
     let last = recut_lasts bs c.recut-left.new.region.blocks c.args.at live.0 k c.args.words c.args.tick live.1 live.2 room (c.recut-left.ensures.blocks live.0 live.1) o in
-    c.set_payload.ensures.touched k last ∙ c.recut-left.ensures.touched k o
+    c.set_payload.ensures.touched k last ∙ c.recut-left.ensures.relists.touched k o
 
 pub returns-clause-groups : goal.returns-clause-groups
 returns-clause-groups g c i stands =
@@ -94,7 +94,7 @@ returns-clause-groups g c i stands =
     let room = room_here c.requires.own c.requires.next c.requires.room stands in
     let is = c.recut-left.ensures.blocks i stands in
     let set = c.set_payload.ensures.groups i (recut_stands stands live c.args.tick room is) in
-    more_groups (omega (arith, ap (λ (l : List ℕ). length l) (recut_bytes stands live c.args.tick room is))) (groups_then c.recut-left.ensures.groups set)
+    more_groups (omega (arith, ap (λ (l : List ℕ). length l) (recut_bytes stands live c.args.tick room is))) (groups_then c.recut-left.ensures.relists.groups set)
 
 -- other bytes change no word in use
 pub returns-clause-used : goal.returns-clause-used

@@ -1,4 +1,4 @@
-use Rattle.tlsf_heap.proofs.Common.{◌≡◌, ◌+◌, ◌-◌, suc, take, drop, ap, ◌∙◌, arith, class_of, size_of, first_free, block_at, list_in}
+use Rattle.tlsf_heap.proofs.Common.{rules, ◌≡◌, ◌+◌, ◌-◌, suc, take, drop, ap, ◌∙◌, arith, class_of, size_of, first_free, block_at, list_in}
 use Rattle.tlsf_class.proofs.TwoLevels.{most_words_any}
 use Rattle.tlsf_heap.proofs.lemmas.blocks.Replace.{rest_some, rest_none}
 use Rattle.tlsf_heap.proofs.lemmas.blocks.Used.{recut_used_small, recut_used_large}
@@ -131,9 +131,11 @@ returns-clause-used g c =
     let sum = recut_used_small (take live.0 bs) (drop (suc live.0) bs) (block_at bs live.0) c.args.words c.args.tick live.2.0 (omega (arith, none, is.size, next.size)) in
     omega (arith, sum, is.size, next.size, c.size-3.ensures.value, c.size-4.ensures.value, ap words_used change.blocks, ap words_used (around bs c.args.at live.0 live.1).is)
 
-pub returns-then-rest-gt0-clause-listed : goal.returns-then-rest-gt0-clause-listed
-returns-then-rest-gt0-clause-listed g c =
+pub returns-then-rest-gt0-clause-relists : goal.returns-then-rest-gt0-clause-relists
+returns-then-rest-gt0-clause-relists g c =
     let live = c.requires.live in
+    let bs = c.args.region.now.blocks in
+    let new = c.recut-rest.new.self.blocks in
     let is = c.requires.own live.0 live.1 in
     let next = c.requires.next live.0 live.1 in
     let f = is_between g.row.SLI (live.0, live.1, live.2.0) c.requires.region in
@@ -141,13 +143,19 @@ returns-then-rest-gt0-clause-listed g c =
     let out = forgets g.row.SLI (c.size-2.ensures.value ∙ next.size) (λ some. ap (λ n. c.args.at + n) (c.size.ensures.value ∙ is.size)) e.list e.others e.none in
     let change = (rw e.blocks at c.recut-rest.ensures.change) live.0 live.1 in
     let some = rest_some (c.args.own.size + c.args.next.size) c.args.words (omega (arith, c.if-rest-gt0.true, c.recut-rest.ensures.rest)) in
-    let rest : c.recut-rest.result ≡ size_of (block_at c.args.region.now.blocks live.0) + first_free (drop (suc live.0) c.args.region.now.blocks) - c.args.words =
+    let rest : c.recut-rest.result ≡ size_of (block_at bs live.0) + first_free (drop (suc live.0) bs) - c.args.words =
     omega (arith, c.recut-rest.ensures.rest, some.1, is.size, next.size) in
-    cut_listed g.row.SLI f out c.args.words c.recut-rest.new.self.blocks change.blocks (list_in c.recut-rest.new.self.lists) change.lists c.requires.least (omega (arith, some.0, is.size, next.size))
-    c.push.new.self.blocks c.push.ensures.blocks c.class_of.result (list_in c.push.new.self.lists) (c.class_of.ensures ∙ ap (class_of g.row.SLI) rest) c.push.ensures.list c.push.ensures.others
+    record {
+      listed = cut_listed g.row.SLI f out c.args.words c.recut-rest.new.self.blocks change.blocks (list_in c.recut-rest.new.self.lists) change.lists c.requires.least (omega (arith, some.0, is.size, next.size))
+          c.push.new.self.blocks c.push.ensures.blocks c.class_of.result (list_in c.push.new.self.lists) (c.class_of.ensures ∙ ap (class_of g.row.SLI) rest) c.push.ensures.list c.push.ensures.others;
+      edits = search rules;
+      touched = λ k o. c.push.ensures.touched k (any_word new c.args.at k (recut_lasts bs new c.args.at live.0 k c.args.words c.args.tick live.1 live.2.0 (omega (arith, c.requires.room, is.size, next.size)) change.blocks o))
+          ∙ (rw e.blocks at c.recut-rest.ensures.touched) k o ∙ e.touched k (any_word bs c.args.at k o);
+      groups = groups_then (groups_then e.groups c.recut-rest.ensures.groups) c.push.ensures.groups;
+    }
 
-pub returns-clause-listed : goal.returns-clause-listed
-returns-clause-listed g c =
+pub returns-clause-relists : goal.returns-clause-relists
+returns-clause-relists g c =
     let live = c.requires.live in
     let is = c.requires.own live.0 live.1 in
     let next = c.requires.next live.0 live.1 in
@@ -156,28 +164,9 @@ returns-clause-listed g c =
     let out = forgets g.row.SLI (c.size-2.ensures.value ∙ next.size) (λ some. ap (λ n. c.args.at + n) (c.size.ensures.value ∙ is.size)) e.list e.others e.none in
     let change = (rw e.blocks at c.recut-rest.ensures.change) live.0 live.1 in
     let none = rest_none (c.args.own.size + c.args.next.size) c.args.words (omega (arith, c.if-rest-gt0.false, c.recut-rest.ensures.rest)) in
-    wide_listed g.row.SLI f out c.args.words c.recut-rest.new.self.blocks change.blocks (list_in c.recut-rest.new.self.lists) change.lists (omega (arith, none, is.size, next.size))
-
-pub returns-then-rest-gt0-clause-touched : goal.returns-then-rest-gt0-clause-touched
-returns-then-rest-gt0-clause-touched g c k o =
-    let live = c.requires.live in
-    let bs = c.args.region.now.blocks in
-    let is = c.requires.own live.0 live.1 in
-    let next = c.requires.next live.0 live.1 in
-    let e = c.forget.ensures in
-    let new = c.recut-rest.new.self.blocks in
-    let change = (rw e.blocks at c.recut-rest.ensures.change) live.0 live.1 in
-    let last = recut_lasts bs new c.args.at live.0 k c.args.words c.args.tick live.1 live.2.0 (omega (arith, c.requires.room, is.size, next.size)) change.blocks o in
-    c.push.ensures.touched k (any_word new c.args.at k last) ∙ (rw e.blocks at c.recut-rest.ensures.touched) k o ∙ e.touched k (any_word bs c.args.at k o)
-
-pub returns-clause-touched : goal.returns-clause-touched
-returns-clause-touched g c k o =
-    (rw c.forget.ensures.blocks at c.recut-rest.ensures.touched) k o ∙ c.forget.ensures.touched k (any_word c.args.region.now.blocks c.args.at k o)
-
--- ---- groups of eight words
-
-pub returns-then-rest-gt0-clause-groups : goal.returns-then-rest-gt0-clause-groups
-returns-then-rest-gt0-clause-groups g c = groups_then (groups_then c.forget.ensures.groups c.recut-rest.ensures.groups) c.push.ensures.groups
-
-pub returns-clause-groups : goal.returns-clause-groups
-returns-clause-groups g c = more_groups (omega arith) (groups_then c.forget.ensures.groups c.recut-rest.ensures.groups)
+    record {
+      listed = wide_listed g.row.SLI f out c.args.words c.recut-rest.new.self.blocks change.blocks (list_in c.recut-rest.new.self.lists) change.lists (omega (arith, none, is.size, next.size));
+      edits = search rules;
+      touched = λ k o. (rw e.blocks at c.recut-rest.ensures.touched) k o ∙ e.touched k (any_word c.args.region.now.blocks c.args.at k o);
+      groups = more_groups (omega arith) (groups_then e.groups c.recut-rest.ensures.groups);
+    }

@@ -77,10 +77,10 @@ returns-clause-touched g c k o =
     let b = block_at bs live.0 in
     let new = with_bytes b (fitted (bytes_of b) c.args.len) in
     let last = kept_others bs c.set_payload.new.self.blocks (new ∷ []) c.args.at live.0 k live.1 (c.set_payload.ensures.change live.0 live.1).blocks (omega (arith, size_of-with_bytes b (fitted (bytes_of b) c.args.len))) o in
-    c.split_off.ensures.touched k last ∙ c.set_payload.ensures.touched k o
+    c.split_off.ensures.relists.touched k last ∙ c.set_payload.ensures.touched k o
 
 pub returns-clause-groups : goal.returns-clause-groups
-returns-clause-groups g c i stands = more_groups (omega arith) (groups_then (c.set_payload.ensures.groups i stands) c.split_off.ensures.groups)
+returns-clause-groups g c i stands = more_groups (omega arith) (groups_then (c.set_payload.ensures.groups i stands) c.split_off.ensures.relists.groups)
 
 pub returns-then-held-words-clause-groups : goal.returns-then-held-words-clause-groups
 returns-then-held-words-clause-groups g c i stands = more_groups (omega arith) (c.set_payload.ensures.groups i stands)

@@ -37,15 +37,14 @@ returns-clause-blocks g c = rw c.look_behind-next.ensures.reads.blocks at c.recu
 pub returns-clause-used : goal.returns-clause-used
 returns-clause-used g c = omega (arith, rw c.look_behind-next.ensures.reads.blocks at c.recut.ensures.used, c.recut.ensures.cut (omega (arith, c.requires.less)))
 
-pub returns-clause-edits : goal.returns-clause-edits
-returns-clause-edits g c =
+pub returns-clause-relists : goal.returns-clause-relists
+returns-clause-relists g c =
     let reads = c.look_behind-next.ensures.reads in
-    let cut = c.recut.ensures.edits in
-    record { words = cut.words ∙ reads.words; shows = cut.shows; linked = cut.linked; bits = cut.bits; stays = cut.stays ∙ reads.stays; touches = omega (arith, cut.touches, reads.touches); rise = omega (arith, cut.rise, reads.rise) }
-
-pub returns-clause-touched : goal.returns-clause-touched
-returns-clause-touched g c k o =
-    (rw c.look_behind-next.ensures.reads.blocks at c.recut.ensures.touched) k o ∙ c.look_behind-next.ensures.touched k (any_word c.args.region.now.blocks c.args.at k o)
-
-pub returns-clause-groups : goal.returns-clause-groups
-returns-clause-groups g c = groups_then c.look_behind-next.ensures.groups c.recut.ensures.groups
+    let done = c.recut.ensures.relists in
+    let cut = done.edits in
+    record {
+      listed = done.listed;
+      edits = record { words = cut.words ∙ reads.words; shows = cut.shows; linked = cut.linked; bits = cut.bits; stays = cut.stays ∙ reads.stays; touches = omega (arith, cut.touches, reads.touches); rise = omega (arith, cut.rise, reads.rise) };
+      touched = λ k o. (rw reads.blocks at done.touched) k o ∙ c.look_behind-next.ensures.touched k (any_word c.args.region.now.blocks c.args.at k o);
+      groups = groups_then c.look_behind-next.ensures.groups done.groups;
+    }

@@ -28,7 +28,7 @@ freed : (g : Over) (c : goal.After-coalesce g) → (released_by_place c.args.sel
 freed g c =
     let l = subst (λ (s : Shown). IsPlaceCheck s.heap c.args.at (Ok c.args.own)) (sym c.self.view_is) c.requires.live in
     let e = c.coalesce.ensures in
-    let done = released_here (state_of g.row.SLI c.self.inside) c.args.at l.0 c.coalesce.new.tick c.coalesce.new.region c.self.invariant.lawful l.1 e.edits.words (e.blocks l.0 l.1.stands) (subst (λ (s : Shown). s.heap.tick ≢ last_tick) (sym c.self.view_is) c.requires.tick) e.tick in
+    let done = released_here (state_of g.row.SLI c.self.inside) c.args.at l.0 c.coalesce.new.tick c.coalesce.new.region c.self.invariant.lawful l.1 e.relists.edits.words (e.blocks l.0 l.1.stands) (subst (λ (s : Shown). s.heap.tick ≢ last_tick) (sym c.self.view_is) c.requires.tick) e.tick in
     (sym (ap (λ (s : Shown). released_by_place s.heap c.args.at) c.self.view_is) ∙ done.0, done.1)
 
 pub returns-clause-answer : goal.returns-clause-answer
@@ -44,15 +44,15 @@ invariant_of-self g c =
     let sum = coalesced_used c.self.inside.region.blocks c.self.inside.tick l.1.stands l.1.live in
     let used = less_use g.row.SLI c.self.inside c.self.view_is c.self.invariant c.coalesce.new.region.blocks c.size.result c.take_back.new.self (omega (arith, sum, ap words_used (e.blocks l.0 l.1.stands), c.size.ensures.value, l.2.size)) c.take_back.ensures in record {
       lawful = (freed g c).1;
-      shows = c.coalesce.ensures.edits.shows;
-      linked = c.coalesce.ensures.edits.linked;
-      bits = c.coalesce.ensures.edits.bits;
+      shows = c.coalesce.ensures.relists.edits.shows;
+      linked = c.coalesce.ensures.relists.edits.linked;
+      bits = c.coalesce.ensures.relists.edits.bits;
       level = c.self.invariant.level;
-      small = omega (arith, c.coalesce.ensures.edits.words, c.self.invariant.small);
-      listed = c.coalesce.ensures.listed;
+      small = omega (arith, c.coalesce.ensures.relists.edits.words, c.self.invariant.small);
+      listed = c.coalesce.ensures.relists.listed;
       in_use = used.words;
       most_in_use = used.most;
     }
 
 pub returns-clause-frame : goal.returns-clause-frame
-returns-clause-frame g c = record { keeps = keeps_stored g.row.SLI c.self.inside c.self.view_is c.self.invariant _ (invariant_of-self g c) c.coalesce.ensures.edits.rise c.coalesce.ensures.edits.stays; most = search rules; touches = search rules; groups = search rules }
+returns-clause-frame g c = record { keeps = keeps_stored g.row.SLI c.self.inside c.self.view_is c.self.invariant _ (invariant_of-self g c) c.coalesce.ensures.relists.edits.rise c.coalesce.ensures.relists.edits.stays; most = search rules; touches = search rules; groups = search rules }
