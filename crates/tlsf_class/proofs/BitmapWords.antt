@@ -1,9 +1,10 @@
 -- The members after the operations on the words of the bitmaps.
-use Rattle.tlsf_class.proofs.Common.{◌≡◌, ◌≢◌, ℕ, ◌+◌, ◌*◌, ◌/◌, ◌%◌, ◌<◌, ◌≤◌, Bool, true, false, not, ◌&&◌, ◌||◌, eqb, List, get_or, set, length, min, Some, None, refl, sym, ap, ◌∙◌, inl, inr, arith, get_or-set_same, get_or-set_other, replicate, [], ◌↔◌, Contains, bit_at, cases_eq, cases_lt, eq-eqb, eqb-true, ne_eqb, cases_order, bit_at-zero, IsLevel, level_classes, last_class, classes}
+use Rattle.tlsf_class.proofs.Common.{cond, filter, ◌≡◌, ◌≢◌, ℕ, ◌+◌, ◌*◌, ◌/◌, ◌%◌, ◌<◌, ◌≤◌, Bool, true, false, not, ◌&&◌, ◌||◌, eqb, List, get_or, set, length, min, Some, None, refl, sym, ap, ◌∙◌, inl, inr, arith, get_or-set_same, get_or-set_other, replicate, [], ◌↔◌, Contains, bit_at, cases_eq, cases_lt, eq-eqb, eqb-true, ne_eqb, cases_order, bit_at-zero, IsLevel, level_classes, last_class, classes}
 use Rattle.std.proofs.lemmas.List.{length-set}
 use Rattle.std.proofs.lemmas.List.Elements.{filter_agree}
 use Rattle.tlsf_class.proofs.TwoLevels.{by_level, split, first_at, second_at, second_below, first_inside, first_rises, second_more, same_class, first_below, second_less}
 use Rattle.tlsf_class.specs.Members.{with_member, without_member, next_member}
+use Rattle.tlsf_class.specs.Steps.{IsInUse, IsLowestFrom}
 use Rattle.tlsf_class.specs.Bitmaps.{is_set, members_of, marked_in, AreLevels}
 use Rattle.tlsf_class.proofs.Members.{filter-classes_same, Contains-filter, with_member-filter, without_member-filter, next_member-filter, next_member-filter_none}
 
@@ -20,52 +21,63 @@ module _ (sli : ℕ) (level : IsLevel sli) where
     | inr n ↦ rw (get_or-set_other second first_level (d / level_classes sli) word 0 n) (there n)
   ]
 
-  -- the word of the first level of c, with the bit of c set
-  pub record SetsBit (second : List ℕ) (c first_level second_level word : ℕ) : Type 0 where
+  -- the word of the first level of c, with the bit of c made this one
+  pub record WritesBit (second : List ℕ) (c first_level second_level word bit : ℕ) : Type 0 where
     pub first_levels : length second ≡ 21
-    pub least : 4 ≤ c
-    pub most : c ≤ last_class sli
+    pub in_use : IsInUse sli c
     pub first_is : first_level ≡ c / level_classes sli
     pub second_is : second_level ≡ c % level_classes sli
-    pub same : bit_at word second_level ≡ 1
+    pub same : bit_at word second_level ≡ bit
     pub others : (k : ℕ) → k ≢ second_level → bit_at word k ≡ bit_at (get_or second first_level 0) k
 
   -- from a word that was read
-  pub SetsBit-read : (second : List ℕ) (c first_level second_level old word : ℕ) → length second ≡ 21 → 4 ≤ c → c ≤ last_class sli → first_level ≡ c / level_classes sli → second_level ≡ c % level_classes sli → old ≡ get_or second first_level 0 → bit_at word second_level ≡ 1 → ((k : ℕ) → k ≢ second_level → bit_at word k ≡ bit_at old k) → SetsBit second c first_level second_level word
-  SetsBit-read second c first_level second_level old word first_levels least most first_is second_is read same others =
-      record {
-        first_levels = first_levels;
-        least = least;
-        most = most;
-        first_is = first_is;
-        second_is = second_is;
-        same = same;
-        others = λ k other. others k other ∙ ap (λ w. bit_at w k) read;
-      }
+  pub WritesBit-read : (second : List ℕ) (c first_level second_level old word bit : ℕ) → length second ≡ 21 → IsInUse sli c → first_level ≡ c / level_classes sli → second_level ≡ c % level_classes sli → old ≡ get_or second first_level 0 → bit_at word second_level ≡ bit → ((k : ℕ) → k ≢ second_level → bit_at word k ≡ bit_at old k) → WritesBit second c first_level second_level word bit
+  WritesBit-read second c first_level second_level old word bit first_levels in_use first_is second_is read same others =
+      record { first_levels = first_levels; in_use = in_use; first_is = first_is; second_is = second_is; same = same; others = rw read at others }
 
-  -- then the bit of each class is set that was, and that of c
-  is_set-set : (second : List ℕ) (c first_level second_level word d : ℕ) → SetsBit second c first_level second_level word → is_set sli (set second first_level word) d ≡ (eqb c d || is_set sli second d)
-  is_set-set second c first_level second_level word d sets =
-      written (λ w. eqb (bit_at w (d % level_classes sli)) 1 ≡ (eqb c d || is_set sli second d)) second first_level word d (omega (arith, sets.first_levels, sets.first_is, first_inside sli level c sets.most))
+  -- then that bit is new, and the bit of each other class is as it was
+  is_set-write : (second : List ℕ) (c first_level second_level word bit d : ℕ) → WritesBit second c first_level second_level word bit → is_set sli (set second first_level word) d ≡ cond (eqb c d) (eqb bit 1) (is_set sli second d)
+  is_set-write second c first_level second_level word bit d writes =
+      written (λ w. eqb (bit_at w (d % level_classes sli)) 1 ≡ cond (eqb c d) (eqb bit 1) (is_set sli second d)) second first_level word d (omega (arith, writes.first_levels, writes.first_is, first_inside sli level c writes.in_use.most))
       (λ e. elim (cases_eq (d % level_classes sli) second_level) [
         | inl f ↦
-            let one : c ≡ d = same_class sli c d (omega (arith, sets.first_is)) (omega (arith, sets.second_is)) in
-            rw (f, sets.same, eq-eqb c d one) refl
+            let one : c ≡ d = same_class sli c d (omega (arith, writes.first_is)) (omega (arith, writes.second_is)) in
+            rw (f, writes.same, eq-eqb c d one) refl
         | inr n ↦
-            let other : c ≢ d = λ g. n (ap (λ k. k % level_classes sli) (sym g) ∙ sym sets.second_is) in
-            rw (sets.others (d % level_classes sli) n, ne_eqb c d other, e) refl
+            let other : c ≢ d = λ g. n (ap (λ k. k % level_classes sli) (sym g) ∙ sym writes.second_is) in
+            rw (writes.others (d % level_classes sli) n, ne_eqb c d other, e) refl
       ])
-      (λ n. let other : c ≢ d = (λ g. n (ap (λ k. k / level_classes sli) (sym g) ∙ sym sets.first_is)) in rw (ne_eqb c d other) refl)
+      (λ n. let other : c ≢ d = (λ g. n (ap (λ k. k / level_classes sli) (sym g) ∙ sym writes.first_is)) in rw (ne_eqb c d other) refl)
 
-  -- and the members are c and those before
-  pub members_of-set : (second : List ℕ) (c first_level second_level word : ℕ) → SetsBit second c first_level second_level word → members_of sli (set second first_level word) ≡ with_member sli (members_of sli second) c
+  members_of-write : (p : ℕ → Bool) (second : List ℕ) (c first_level second_level word bit : ℕ) → WritesBit second c first_level second_level word bit → ((d : ℕ) → cond (eqb c d) (eqb bit 1) (is_set sli second d) ≡ p d) → members_of sli (set second first_level word) ≡ filter p (classes sli)
+  unfolding members_of
+  members_of-write p second c first_level second_level word bit writes same =
+      filter-classes_same sli level (is_set sli (set second first_level word)) p (λ d _ _. is_set-write second c first_level second_level word bit d writes ∙ same d)
+
+  -- where it is set, the members are c and those before
+  pub members_of-set : (second : List ℕ) (c first_level second_level word : ℕ) → WritesBit second c first_level second_level word 1 → members_of sli (set second first_level word) ≡ with_member sli (members_of sli second) c
   unfolding members_of
   members_of-set second c first_level second_level word sets =
-      filter-classes_same sli level (is_set sli (set second first_level word)) (λ d. eqb c d || is_set sli second d) (λ d _ _. is_set-set second c first_level second_level word d sets)
-      ∙ sym (with_member-filter sli level (is_set sli second) c)
+      members_of-write (λ d. eqb c d || is_set sli second d) second c first_level second_level word 1 sets (λ d. either (eqb c d) (is_set sli second d)) ∙ sym (with_member-filter sli level (is_set sli second) c)
+    where
+      either : (a b : Bool) → cond a true b ≡ (a || b)
+      either true b = refl
+      either false b = refl
+
+  -- and where it is cleared, they are those before but c
+  pub members_of-clear : (second : List ℕ) (c first_level second_level word : ℕ) → WritesBit second c first_level second_level word 0 → members_of sli (set second first_level word) ≡ without_member (members_of sli second) c
+  unfolding members_of
+  members_of-clear second c first_level second_level word clears =
+      members_of-write (λ d. is_set sli second d && not (eqb c d)) second c first_level second_level word 0 clears (λ d. but (eqb c d) (is_set sli second d)) ∙ sym (without_member-filter sli (is_set sli second) c)
+    where
+      but : (a b : Bool) → cond a false b ≡ (b && not a)
+      but true true = refl
+      but true false = refl
+      but false true = refl
+      but false false = refl
 
   -- a word with a bit set isn't zero
-  some_bit : (word bit : ℕ) → bit_at word bit ≡ 1 → 0 < word
+  pub some_bit : (word bit : ℕ) → bit_at word bit ≡ 1 → 0 < word
   some_bit word bit h = elim (cases_order word 0) [
     | inl e ↦ absurd (omega (arith, bit_at-zero bit, sym h ∙ ap (λ w. bit_at w bit) e))
     | inr other ↦ elim other [ inl below ↦ absurd (omega arith) | inr above ↦ above ]
@@ -84,87 +96,9 @@ module _ (sli : ℕ) (level : IsLevel sli) where
           eq-eqb (bit_at first (c / level_classes sli)) 1 (levels.first_bits (c / level_classes sli) ∙ omega (arith, some))
       both c false is = refl
 
-  -- the two levels stay in step where the bit of c is set in both
-  pub AreLevels-set : (first next : ℕ) (second : List ℕ) (c first_level second_level word : ℕ) → AreLevels sli first second → SetsBit second c first_level second_level word → bit_at next first_level ≡ 1 → ((k : ℕ) → k ≢ first_level → bit_at next k ≡ bit_at first k) → AreLevels sli next (set second first_level word)
-  AreLevels-set first next second c first_level second_level word levels sets here others =
-      record {
-        level = level;
-        first_levels = length-set second first_level word ∙ levels.first_levels;
-        first_bits = λ r. elim (cases_eq r first_level) [
-          | inl e ↦ rw (e, get_or-set_same second first_level word 0 within) (omega (arith, some_bit word second_level sets.same, here))
-          | inr n ↦ rw (get_or-set_other second first_level r word 0 n) (others r n ∙ levels.first_bits r)
-        ];
-        in_use = λ r p. elim (cases_eq r first_level) [
-          | inl e ↦ rw (e, get_or-set_same second first_level word 0 within) (λ h. elim (cases_eq p second_level) [
-            | inl f ↦ rw (f, sets.first_is, sets.second_is, split sli c) (second_below sli level c, sets.least, sets.most)
-            | inr m ↦ levels.in_use first_level p (sym (sets.others p m) ∙ h)
-          ])
-          | inr n ↦ rw (get_or-set_other second first_level r word 0 n) (levels.in_use r p)
-        ];
-      }
-    where
-      within : first_level < length second
-      within = omega (arith, sets.first_levels, sets.first_is, first_inside sli level c sets.most)
-
-  -- the bit of a first level is set where its word isn't zero
-  pub first_bit-set : (first : ℕ) (second : List ℕ) (first_level : ℕ) → AreLevels sli first second → 0 < get_or second first_level 0 → bit_at first first_level ≡ 1
-  first_bit-set first second first_level levels some = levels.first_bits first_level ∙ omega arith
-
-  -- the word of the first level of c, with the bit of c cleared
-  pub record ClearsBit (second : List ℕ) (c first_level second_level word : ℕ) : Type 0 where
-    pub first_levels : length second ≡ 21
-    pub most : c ≤ last_class sli
-    pub first_is : first_level ≡ c / level_classes sli
-    pub second_is : second_level ≡ c % level_classes sli
-    pub same : bit_at word second_level ≡ 0
-    pub others : (k : ℕ) → k ≢ second_level → bit_at word k ≡ bit_at (get_or second first_level 0) k
-    pub below : word ≤ get_or second first_level 0
-
-  -- from a word that was read
-  pub ClearsBit-read : (second : List ℕ) (c first_level second_level old word : ℕ) → length second ≡ 21 → c ≤ last_class sli → first_level ≡ c / level_classes sli → second_level ≡ c % level_classes sli → old ≡ get_or second first_level 0 → bit_at word second_level ≡ 0 → ((k : ℕ) → k ≢ second_level → bit_at word k ≡ bit_at old k) → word ≤ old → ClearsBit second c first_level second_level word
-  ClearsBit-read second c first_level second_level old word first_levels most first_is second_is read same others below =
-      record {
-        first_levels = first_levels;
-        most = most;
-        first_is = first_is;
-        second_is = second_is;
-        same = same;
-        others = λ k other. others k other ∙ ap (λ w. bit_at w k) read;
-        below = omega arith;
-      }
-
-  -- then the bit of each class is set that was, but that of c
-  is_set-clear : (second : List ℕ) (c first_level second_level word d : ℕ) → ClearsBit second c first_level second_level word → is_set sli (set second first_level word) d ≡ (is_set sli second d && not (eqb c d))
-  is_set-clear second c first_level second_level word d clears =
-      written (λ w. eqb (bit_at w (d % level_classes sli)) 1 ≡ (is_set sli second d && not (eqb c d))) second first_level word d (omega (arith, clears.first_levels, clears.first_is, first_inside sli level c clears.most))
-      (λ e. elim (cases_eq (d % level_classes sli) second_level) [
-        | inl f ↦
-            let one : c ≡ d = same_class sli c d (omega (arith, clears.first_is)) (omega (arith, clears.second_is)) in
-            rw (f, clears.same, eq-eqb c d one) (sym (and_false (eqb (bit_at (get_or second (d / level_classes sli) 0) second_level) 1)))
-        | inr n ↦
-            let other : c ≢ d = λ g. n (ap (λ k. k % level_classes sli) (sym g) ∙ sym clears.second_is) in
-            rw (clears.others (d % level_classes sli) n, ne_eqb c d other, e) (sym (and_true (eqb (bit_at (get_or second first_level 0) (d % level_classes sli)) 1)))
-      ])
-      (λ n. let other : c ≢ d = (λ g. n (ap (λ k. k / level_classes sli) (sym g) ∙ sym clears.first_is)) in rw (ne_eqb c d other) (sym (and_true (is_set sli second d))))
-    where
-      and_true : (b : Bool) → (b && true) ≡ b
-      and_true true = refl
-      and_true false = refl
-
-      and_false : (b : Bool) → (b && false) ≡ false
-      and_false true = refl
-      and_false false = refl
-
-  -- and the members are those before but c
-  pub members_of-clear : (second : List ℕ) (c first_level second_level word : ℕ) → ClearsBit second c first_level second_level word → members_of sli (set second first_level word) ≡ without_member (members_of sli second) c
-  unfolding members_of
-  members_of-clear second c first_level second_level word clears =
-      filter-classes_same sli level (is_set sli (set second first_level word)) (λ d. is_set sli second d && not (eqb c d)) (λ d _ _. is_set-clear second c first_level second_level word d clears)
-      ∙ sym (without_member-filter sli (is_set sli second) c)
-
-  -- the two levels stay in step where the bit of c is cleared. The bit of its first level says whether its word is zero
-  pub AreLevels-clear : (first next : ℕ) (second : List ℕ) (c first_level second_level word : ℕ) → AreLevels sli first second → ClearsBit second c first_level second_level word → bit_at next first_level ≡ min 1 word → ((k : ℕ) → k ≢ first_level → bit_at next k ≡ bit_at first k) → AreLevels sli next (set second first_level word)
-  AreLevels-clear first next second c first_level second_level word levels clears here others =
+  -- the two levels stay in step where the bit of a first level says whether its new word is zero
+  pub AreLevels-write : (first next : ℕ) (second : List ℕ) (c first_level second_level word bit : ℕ) → AreLevels sli first second → WritesBit second c first_level second_level word bit → bit_at next first_level ≡ min 1 word → ((k : ℕ) → k ≢ first_level → bit_at next k ≡ bit_at first k) → AreLevels sli next (set second first_level word)
+  AreLevels-write first next second c first_level second_level word bit levels writes here others =
       record {
         level = level;
         first_levels = length-set second first_level word ∙ levels.first_levels;
@@ -174,19 +108,19 @@ module _ (sli : ℕ) (level : IsLevel sli) where
         ];
         in_use = λ r p. elim (cases_eq r first_level) [
           | inl e ↦ rw (e, get_or-set_same second first_level word 0 within) (λ h. elim (cases_eq p second_level) [
-            | inl f ↦ absurd (omega (arith, clears.same, sym h ∙ ap (bit_at word) f))
-            | inr m ↦ levels.in_use first_level p (sym (clears.others p m) ∙ h)
+            | inl f ↦ rw (f, writes.first_is, writes.second_is, split sli c) (second_below sli level c, writes.in_use.least, writes.in_use.most)
+            | inr m ↦ levels.in_use first_level p (sym (writes.others p m) ∙ h)
           ])
           | inr n ↦ rw (get_or-set_other second first_level r word 0 n) (levels.in_use r p)
         ];
       }
     where
       within : first_level < length second
-      within = omega (arith, clears.first_levels, clears.first_is, first_inside sli level c clears.most)
+      within = omega (arith, writes.first_levels, writes.first_is, first_inside sli level c writes.in_use.most)
 
-  -- the bit of a first level stays where the new word isn't zero, since the old one wasn't either
-  pub first_bit-kept : (first : ℕ) (second : List ℕ) (first_level word : ℕ) → AreLevels sli first second → word ≤ get_or second first_level 0 → 0 < word → bit_at first first_level ≡ min 1 word
-  first_bit-kept first second first_level word levels below some = levels.first_bits first_level ∙ omega arith
+  -- it stays where neither the old word nor the new one is zero
+  pub first_bit-kept : (first : ℕ) (second : List ℕ) (first_level word : ℕ) → AreLevels sli first second → 0 < get_or second first_level 0 → 0 < word → bit_at first first_level ≡ min 1 word
+  first_bit-kept first second first_level word levels was some = levels.first_bits first_level ∙ omega arith
 
   -- where the bit of a first level is zero, no bit of its word is set
   no_bit : (first : ℕ) (second : List ℕ) (first_level bit : ℕ) → AreLevels sli first second → bit_at first first_level ≡ 0 → bit_at (get_or second first_level 0) bit ≡ 0
@@ -224,37 +158,38 @@ module _ (sli : ℕ) (level : IsLevel sli) where
   above_first b first_level d first_is l = let rises = first_rises sli level b d (omega arith) in omega arith
 
   -- it is in the first level of the number below
-  pub next-same_level : (first : ℕ) (second : List ℕ) (b first_level from n : ℕ) → AreLevels sli first second → first_level ≡ b / level_classes sli → from ≡ b % level_classes sli → 0 < n → bit_at (get_or second first_level 0) (from + n) ≡ 1 → ((k : ℕ) → from < k → k < from + n → bit_at (get_or second first_level 0) k ≡ 0) → next_member (members_of sli second) (b + 1) ≡ Some (b + n)
-  next-same_level first second b first_level from n levels first_is from_is some here lowest =
-      let inside = (levels.in_use first_level (from + n) here).0 in
+  pub next-same_level : (first : ℕ) (second : List ℕ) (b first_level from n : ℕ) → AreLevels sli first second → first_level ≡ b / level_classes sli → from ≡ b % level_classes sli → IsLowestFrom (get_or second first_level 0) (from + 1) (from + n) → next_member (members_of sli second) (b + 1) ≡ Some (b + n)
+  next-same_level first second b first_level from n levels first_is from_is found =
+      let inside = (levels.in_use first_level (from + n) found.set).0 in
       next_is first second (b + 1) first_level (from + n) levels record {
-        above = omega (arith, some, further b first_level from n first_is from_is);
-        here = here;
+        above = omega (arith, found.least, further b first_level from n first_is from_is);
+        here = found.set;
         before = λ d l h.
             let rises = above_first b first_level d first_is l in
             let under = first_below sli level d first_level (from + n) inside h in
             let e : d / level_classes sli ≡ first_level = omega arith in
-            rw e (lowest (d % level_classes sli) (above_from b first_level from d first_is from_is l e) (second_less sli d first_level (from + n) h e));
+            rw e (found.lowest (d % level_classes sli) (omega (arith, above_from b first_level from d first_is from_is l e)) (second_less sli d first_level (from + n) h e));
       } ∙ ap Some (further b first_level from n first_is from_is)
 
   -- it is the least of the next first level that has a member
-  pub next-later_level : (first : ℕ) (second : List ℕ) (b first_level from later second_level : ℕ) → AreLevels sli first second → first_level ≡ b / level_classes sli → from ≡ b % level_classes sli → ((k : ℕ) → from < k → bit_at (get_or second first_level 0) k ≡ 0) → first_level + 1 ≤ later → ((k : ℕ) → first_level + 1 ≤ k → k < later → bit_at first k ≡ 0) → bit_at (get_or second later 0) second_level ≡ 1 → ((k : ℕ) → k < second_level → bit_at (get_or second later 0) k ≡ 0) → next_member (members_of sli second) (b + 1) ≡ Some (level_classes sli * later + second_level)
-  next-later_level first second b first_level from later second_level levels first_is from_is none past skipped here lowest =
-      let inside = (levels.in_use later second_level here).0 in
+  pub next-later_level : (first : ℕ) (second : List ℕ) (b first_level from later second_level : ℕ) → AreLevels sli first second → first_level ≡ b / level_classes sli → from ≡ b % level_classes sli → ((k : ℕ) → from < k → bit_at (get_or second first_level 0) k ≡ 0) → IsLowestFrom first (first_level + 1) later → IsLowestFrom (get_or second later 0) 0 second_level → next_member (members_of sli second) (b + 1) ≡ Some (level_classes sli * later + second_level)
+  next-later_level first second b first_level from later second_level levels first_is from_is none next own =
+      let inside = (levels.in_use later second_level own.set).0 in
+      let past = next.least in
       next_is first second (b + 1) later second_level levels record {
         above = elim (cases_lt b (level_classes sli * later + second_level)) [
           | inl fine ↦ omega arith
           | inr under ↦ let rises = first_rises sli level (level_classes sli * later + second_level) b under in let at = first_at sli later second_level inside in absurd (omega arith)
         ];
-        here = here;
+        here = own.set;
         before = λ d l h. elim (cases_order (d / level_classes sli) first_level) [
           | inl e ↦ rw e (none (d % level_classes sli) (above_from b first_level from d first_is from_is l e))
           | inr other ↦ elim other [
             | inl below ↦ absurd (let rises = above_first b first_level d first_is l in omega arith)
             | inr above ↦ elim (cases_order (d / level_classes sli) later) [
-              | inl e ↦ rw e (lowest (d % level_classes sli) (second_less sli d later second_level h e))
+              | inl e ↦ rw e (own.lowest (d % level_classes sli) (omega arith) (second_less sli d later second_level h e))
               | inr other ↦ elim other [
-                | inl between ↦ no_bit first second (d / level_classes sli) (d % level_classes sli) levels (skipped (d / level_classes sli) (omega arith) between)
+                | inl between ↦ no_bit first second (d / level_classes sli) (d % level_classes sli) levels (next.lowest (d / level_classes sli) (omega arith) between)
                 | inr beyond ↦ absurd (let under = first_below sli level d later second_level inside h in omega arith)
               ]
             ]
@@ -277,13 +212,6 @@ module _ (sli : ℕ) (level : IsLevel sli) where
       ap (λ b. eqb b 1) zero)
 
 -- no bit is set, and there is no member
-zeros_4 : marked_in 4 0 (replicate 21 0) ≡ []
-unfolding marked_in classes
-zeros_4 = refl
-
-zeros_5 : marked_in 5 0 (replicate 21 0) ≡ []
-unfolding marked_in classes
-zeros_5 = refl
-
 pub marked_in-zeros : (sli : ℕ) → IsLevel sli → marked_in sli 0 (replicate 21 0) ≡ []
-marked_in-zeros = by_level (λ sli. marked_in sli 0 (replicate 21 0) ≡ []) zeros_4 zeros_5
+unfolding marked_in classes
+marked_in-zeros = by_level (λ sli. marked_in sli 0 (replicate 21 0) ≡ []) refl refl

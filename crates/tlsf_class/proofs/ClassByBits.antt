@@ -1,7 +1,7 @@
 -- The class of a size by its highest bits.
 use Rattle.tlsf_class.proofs.Common.{◌≡◌, ℕ, ◌+◌, ◌-◌, ◌*◌, ◌/◌, ◌%◌, ◌^◌, ◌<◌, ◌≤◌, nat_lt, Some, refl, sym, ap, ◌∙◌, inl, inr, arith, cases_lt, cases_eq, cond-false, cond_below, le-ltb, pow-add, pow_pos, div_below, le-div, shr_split, mod_below, pow_below, one_shl, shl_whole, div-mul-add, or_lt, le_or_l, le_or_r, pow-le-pow_right, mul-add, add-mul, mul_assoc, IsLevel, level_classes, last_class, most_words, low, class_of, search_of}
 use Rattle.std.specs.Int.RustNames.{bit_or}
-use Rattle.tlsf_class.specs.Steps.{IsStep, last_step}
+use Rattle.tlsf_class.specs.Steps.{IsInUse, IsStep, last_step}
 use Rattle.tlsf_class.proofs.TwoLevels.{by_level, bounds_of, first_at, second_at, first_inside, second_below}
 use Rattle.tlsf_class.proofs.ClassOfSize.{class_of-between, search_of-same, search_of-next}
 
@@ -13,11 +13,6 @@ pub record HasTop (sli : ℕ) : Type 0 where
 
 pub tops : (sli : ℕ) → IsLevel sli → HasTop sli
 tops = by_level HasTop (record { words = refl; stepped = refl; last = refl }) (record { words = refl; stepped = refl; last = refl })
-
--- a class in use
-pub record IsInUse (sli class : ℕ) : Type 0 where
-  pub least : 4 ≤ class
-  pub most : class ≤ last_class sli
 
 -- a number of steps that is below twice the classes of a first level makes one, where the step is below the greatest
 below_last : (sli : ℕ) → IsLevel sli → (whole step : ℕ) → step < last_step sli → whole < 2 * level_classes sli → whole + level_classes sli * step ≤ last_class sli
@@ -158,6 +153,7 @@ module _ (sli : ℕ) (level : IsLevel sli) where
     -- the number that the whole steps of a size make is a class's
     pub in_use-step : IsInUse sli (whole_steps + level_classes sli * step)
     in_use-step = record {
+      level = level;
       least = elim (cases_eq step 0) [
         | inl none ↦
             let one : 2 ^ step ≡ 1 = ap (λ k. 2 ^ k) none in
@@ -208,14 +204,14 @@ module _ (sli : ℕ) (level : IsLevel sli) where
       | inl none ↦
           let same = ap (λ k. k + level_classes sli * step) (exact none) in
           let begins : low sli (class_of sli n) ≡ n = ap (low sli) class_of-step ∙ low_here ∙ omega (arith, has.whole) in (
-            record { least = omega (arith, in_use-step.least, same); most = omega (arith, in_use-step.most, same) },
+            record { level = level; least = omega (arith, in_use-step.least, same); most = omega (arith, in_use-step.most, same) },
             (search_of-same sli level n least begins).found ∙ ap Some (class_of-step ∙ sym same),
           )
       | inr some ↦
           let above : low sli (class_of sli n) < n = omega (arith, ap (low sli) class_of-step, low_here, has.whole) in
           let next = search_of-next sli level n least most above in
           let same : class_of sli n + 1 ≡ steps + level_classes sli * step = omega (arith, rounded (omega arith), class_of-step) in (
-            record { least = omega (arith, in_use-step.least, same, class_of-step); most = omega (arith, next.0, same) },
+            record { level = level; least = omega (arith, in_use-step.least, same, class_of-step); most = omega (arith, next.0, same) },
             next.1.found ∙ ap Some same,
           )
     ]

@@ -1,15 +1,6 @@
 -- The least sizes rise strictly from class to class.
-use Rattle.tlsf_class.proofs.Common.{◌≡◌, ℕ, zero, suc, ◌+◌, ◌-◌, ◌^◌, ◌<◌, ◌≤◌, true, nat_lt, refl, inl, inr, arith, add-zero, ltb-true, agree_below, agree_below_at, cases_eq, IsLevel, last_class, most_words, low}
+use Rattle.tlsf_class.proofs.Common.{◌≡◌, ℕ, zero, suc, ◌+◌, ◌-◌, ◌<◌, ◌≤◌, true, nat_lt, refl, inl, inr, arith, add-zero, ltb-true, agree_below, agree_below_at, cases_eq, IsLevel, last_class, most_words, low}
 use Rattle.tlsf_class.proofs.TwoLevels.{by_level}
-
--- by a table for each level, up to one class above the last
-rises_4 : agree_below (λ c. nat_lt (low 4 c) (low 4 (suc c))) (λ c. true) 273 ≡ true
-unfolding low
-rises_4 = refl
-
-rises_5 : agree_below (λ c. nat_lt (low 5 c) (low 5 (suc c))) (λ c. true) 641 ≡ true
-unfolding low
-rises_5 = refl
 
 -- from a class to the next, where a table says so
 next_by : (sli most c : ℕ) → agree_below (λ c. nat_lt (low sli c) (low sli (suc c))) (λ c. true) most ≡ true → c < most → low sli c < low sli (c + 1)
@@ -18,9 +9,10 @@ next_by sli most c rises h =
     let e : suc c ≡ c + 1 = omega arith in
     rw (← e) (ltb-true (low sli c) (low sli (suc c)) t)
 
--- from a class to the next
+-- from a class to the next, by a table for each level
 pub low-next : (sli : ℕ) → IsLevel sli → (c : ℕ) → c ≤ last_class sli → low sli c < low sli (c + 1)
-low-next = by_level (λ sli. (c : ℕ) → c ≤ last_class sli → low sli c < low sli (c + 1)) (λ c h. next_by 4 273 c rises_4 (omega arith)) (λ c h. next_by 5 641 c rises_5 (omega arith))
+unfolding low
+low-next = by_level (λ sli. (c : ℕ) → c ≤ last_class sli → low sli c < low sli (c + 1)) (λ c h. next_by 4 273 c refl (omega arith)) (λ c h. next_by 5 641 c refl (omega arith))
 
 -- over k + 1 classes
 from_below : (sli : ℕ) → IsLevel sli → (c k : ℕ) → c + k ≤ last_class sli → low sli c < low sli (c + k + 1)
@@ -42,28 +34,14 @@ pub low-rises_or_same : (sli : ℕ) → IsLevel sli → (c d : ℕ) → c ≤ d 
 low-rises_or_same sli level c d h g = elim (cases_eq c d) [ inl e ↦ rw e (omega arith) | inr n ↦ omega (arith, low-rises sli level c d (omega arith) g) ]
 
 -- the first class begins at 4 words
-first_4 : low 4 4 ≡ 4
-unfolding low
-first_4 = refl
-
-first_5 : low 5 4 ≡ 4
-unfolding low
-first_5 = refl
-
 pub low-first : (sli : ℕ) → IsLevel sli → low sli 4 ≡ 4
-low-first = by_level (λ sli. low sli 4 ≡ 4) first_4 first_5
+unfolding low
+low-first = by_level (λ sli. low sli 4 ≡ 4) refl refl
 
 -- and the last at as many as the largest region has
-last_4 : low 4 272 ≡ 2 ^ 20
-unfolding low
-last_4 = refl
-
-last_5 : low 5 640 ≡ 2 ^ 24
-unfolding low
-last_5 = refl
-
 pub low-last : (sli : ℕ) → IsLevel sli → low sli (last_class sli) ≡ most_words sli
-low-last = by_level (λ sli. low sli (last_class sli) ≡ most_words sli) last_4 last_5
+unfolding low
+low-last = by_level (λ sli. low sli (last_class sli) ≡ most_words sli) refl refl
 
 -- no least size is above that
 pub low-most : (sli : ℕ) → IsLevel sli → (c : ℕ) → c ≤ last_class sli → low sli c ≤ most_words sli

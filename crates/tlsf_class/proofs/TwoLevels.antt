@@ -32,11 +32,10 @@ pub record HasBounds (sli : ℕ) : Type 0 where
   pub words : most_words sli ≤ 2 ^ 24
 
 pub bounds_of : (sli : ℕ) → IsLevel sli → HasBounds sli
-bounds_of sli level =
+bounds_of =
     by_level HasBounds
     (record { least = omega arith; most = omega arith; last_least = omega arith; last_most = omega arith; last_inside = omega arith; words = omega arith })
     (record { least = omega arith; most = omega arith; last_least = omega arith; last_most = omega arith; last_inside = omega arith; words = omega arith })
-    sli level
 
 -- the first level and the second level of a class that is given by them
 pub first_at : (sli first_level second_level : ℕ) → second_level < level_classes sli → (level_classes sli * first_level + second_level) / level_classes sli ≡ first_level

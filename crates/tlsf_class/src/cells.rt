@@ -13,7 +13,7 @@ pub(crate) struct Cells {
 
 impl Model for Cells {
     ghost use Rattle.std.specs.Prelude.{◌≡◌, length};
-    ghost use Rattle.tlsf_class.specs.Counted.{CountedWords};
+    ghost use Rattle.tlsf_class.specs.Steps.{CountedWords};
 
     ghost Value = { CountedWords };
 
@@ -25,8 +25,7 @@ impl Model for Cells {
 impl Cells {
     /// Every word is zero.
     pub(crate) fn new() -> Cells
-        ensures words { result.words ≡ replicate 22 0 }
-        ensures touches { result.touches ≡ 0 }
+        ensures { result ≡ record { words = replicate 22 0; touches = 0 } }
     {
         Cells {
             words: [0; 22],
@@ -38,8 +37,7 @@ impl Cells {
     pub(crate) fn read(&mut self, at: u32) -> u32
         requires { at < 22 }
         ensures value { result ≡ slice_index self.old.words at }
-        ensures words { self.new.words ≡ self.old.words }
-        ensures touches { self.new.touches ≡ self.old.touches + 1 }
+        ensures reads { self.new ≡ record self.old { touches = self.old.touches + 1 } }
     {
         let word = self.words[at as usize];
         self.touches.add_one();
@@ -50,8 +48,7 @@ impl Cells {
     pub(crate) fn write(&mut self, at: u32, word: u32)
         requires { at < 22 }
         ensures length { length self.old.words ≡ 22 }
-        ensures words { self.new.words ≡ slice_set self.old.words at word }
-        ensures touches { self.new.touches ≡ self.old.touches + 1 }
+        ensures writes { self.new ≡ record { words = slice_set self.old.words at word; touches = self.old.touches + 1 } }
     {
         self.words[at as usize] = word;
         self.touches.add_one();
@@ -59,8 +56,7 @@ impl Cells {
 
     /// Makes every word zero. One touch a word.
     pub(crate) fn clear(&mut self)
-        ensures words { self.new.words ≡ replicate 22 0 }
-        ensures touches { self.new.touches ≡ self.old.touches + 22 }
+        ensures { self.new ≡ record { words = replicate 22 0; touches = self.old.touches + 22 } }
     {
         self.words = [0; 22];
         self.touches.add(22);

@@ -1,6 +1,6 @@
 ghost use Rattle.std.specs.Prelude.{◌≡◌, ◌+◌, ◌-◌, ◌*◌, ◌/◌, ◌%◌, ◌<◌, ◌≤◌, Some};
 ghost use Rattle.tlsf_class.specs.Classes.{IsLevel, level_classes, last_class, most_words, low, class_of, search_of};
-ghost use Rattle.tlsf_class.specs.Steps.{IsStep};
+ghost use Rattle.tlsf_class.specs.Steps.{IsInUse, IsStep};
 
 use std::marker::Model;
 
@@ -90,9 +90,7 @@ impl<const SLI: u32> Class<SLI> {
     pub(crate) fn first_level(self) -> u32
         ensures value { result ≡ self.entry / level_classes SLI }
         ensures bound { result < 21 }
-        ensures level { IsLevel SLI }
-        ensures least { 4 ≤ self.entry }
-        ensures most { self.entry ≤ last_class SLI }
+        ensures in_use { IsInUse SLI self.entry }
     {
         (self.number as u32) >> SLI
     }
@@ -109,9 +107,7 @@ impl<const SLI: u32> Class<SLI> {
     pub(crate) fn first_level_below(self) -> u32
         ensures value { result ≡ (self.entry - 1) / level_classes SLI }
         ensures bound { result < 21 }
-        ensures level { IsLevel SLI }
-        ensures least { 4 ≤ self.entry }
-        ensures most { self.entry ≤ last_class SLI }
+        ensures in_use { IsInUse SLI self.entry }
     {
         (self.number as u32 - 1) >> SLI
     }

@@ -12,7 +12,7 @@ pub(crate) struct Levels {
 
 impl Model for Levels {
     ghost use Rattle.std.specs.Prelude.{slice_index, drop};
-    ghost use Rattle.tlsf_class.specs.Counted.{CountedLevels};
+    ghost use Rattle.tlsf_class.specs.Steps.{CountedLevels};
 
     ghost Value = { CountedLevels };
 
@@ -22,9 +22,7 @@ impl Model for Levels {
 impl Levels {
     /// Every word is zero.
     pub(crate) fn new() -> Levels
-        ensures first { result.first ≡ 0 }
-        ensures second { result.second ≡ replicate 21 0 }
-        ensures touches { result.touches ≡ 0 }
+        ensures { result ≡ record { first = 0; second = replicate 21 0; touches = 0 } }
     {
         Levels {
             cells: Cells::new(),
@@ -34,18 +32,14 @@ impl Levels {
     /// Reads the word of the first level.
     pub(crate) fn first_word(&mut self) -> u32
         ensures value { result ≡ self.old.first }
-        ensures first { self.new.first ≡ self.old.first }
-        ensures second { self.new.second ≡ self.old.second }
-        ensures touches { self.new.touches ≡ self.old.touches + 1 }
+        ensures reads { self.new ≡ record self.old { touches = self.old.touches + 1 } }
     {
         self.cells.read(0)
     }
 
     /// Writes the word of the first level.
     pub(crate) fn set_first_word(&mut self, word: u32)
-        ensures first { self.new.first ≡ word }
-        ensures second { self.new.second ≡ self.old.second }
-        ensures touches { self.new.touches ≡ self.old.touches + 1 }
+        ensures { self.new ≡ record self.old { first = word; touches = self.old.touches + 1 } }
     {
         self.cells.write(0, word);
     }
@@ -54,9 +48,7 @@ impl Levels {
     pub(crate) fn second_word(&mut self, first_level: u32) -> u32
         requires { first_level < 21 }
         ensures value { result ≡ slice_index self.old.second first_level }
-        ensures first { self.new.first ≡ self.old.first }
-        ensures second { self.new.second ≡ self.old.second }
-        ensures touches { self.new.touches ≡ self.old.touches + 1 }
+        ensures reads { self.new ≡ record self.old { touches = self.old.touches + 1 } }
     {
         self.cells.read(first_level + 1)
     }
@@ -64,18 +56,14 @@ impl Levels {
     /// Writes the second-level word of a first level, 0 to 20.
     pub(crate) fn set_second_word(&mut self, first_level: u32, word: u32)
         requires { first_level < 21 }
-        ensures first { self.new.first ≡ self.old.first }
-        ensures second { self.new.second ≡ slice_set self.old.second first_level word }
-        ensures touches { self.new.touches ≡ self.old.touches + 1 }
+        ensures { self.new ≡ record self.old { second = slice_set self.old.second first_level word; touches = self.old.touches + 1 } }
     {
         self.cells.write(first_level + 1, word);
     }
 
     /// Makes every word zero.
     pub(crate) fn clear(&mut self)
-        ensures first { self.new.first ≡ 0 }
-        ensures second { self.new.second ≡ replicate 21 0 }
-        ensures touches { self.new.touches ≡ self.old.touches + 22 }
+        ensures { self.new ≡ record { first = 0; second = replicate 21 0; touches = self.old.touches + 22 } }
     {
         self.cells.clear();
     }
