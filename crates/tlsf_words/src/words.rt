@@ -163,25 +163,23 @@ impl Words {
         self.words.write_two(at as usize, tag.to_word(), mark);
     }
 
-    /// Writes the header of a live block at a place: its tag, its mark and its payload length in bytes. Makes its first payload
-    /// word zero, which each block has. Four touches.
+    /// Writes the header of a live block at a place: its tag, its mark and its payload length in bytes. Three touches.
     ///
     /// ```
-    /// words.set_header(at, tag.as_live(), serial, 8);     // of a block of 4 words: its payload is zero
+    /// words.set_header(at, tag.as_live(), serial, 8);     // of a block of 4 words: its payload stays
     /// ```
     #[inline]
     #[tactic(auto, unfolding(crate::specs::Fields::length_word))]
     pub fn set_header(&mut self, at: u32, tag: Tag, mark: u64, bytes: u32)
-        requires { at + 3 < length self.old.words }
-        ensures writes { Writes ((at + 3) ∷ (at + 2) ∷ (at + 1) ∷ at ∷ []) (slice_set (slice_set (slice_set (slice_set self.old.words at (tag_word tag.size tag.last tag.free tag.back)) (at + 1) mark) (at + 2) (length_word bytes)) (at + 3) 0) self.old self.new }
+        requires { at + 2 < length self.old.words }
+        ensures writes { Writes ((at + 2) ∷ (at + 1) ∷ at ∷ []) (slice_set (slice_set (slice_set self.old.words at (tag_word tag.size tag.last tag.free tag.back)) (at + 1) mark) (at + 2) (length_word bytes)) self.old self.new }
     {
         self.words
-            .write_four(at as usize, tag.to_word(), mark, u64::from(bytes));
+            .write_three(at as usize, tag.to_word(), mark, u64::from(bytes));
     }
 
-    /// Writes the header of a live block at a place and makes its first payload word zero, as [`Words::set_header`] does. Writes
-    /// the tag and the mark, the same one, of a free block at another place too. Six touches. The address of the words is read
-    /// once.
+    /// Writes the header of a live block at a place, as [`Words::set_header`] does. Writes the tag and the mark, the same one, of a
+    /// free block at another place too. Five touches. The address of the words is read once.
     ///
     /// ```
     /// words.set_headers(at, tag.without(rest), serial, 8, at + 4, rest);     // a block of 4 words, cut off its front
@@ -189,9 +187,9 @@ impl Words {
     #[inline]
     #[tactic(auto, unfolding(crate::specs::Fields::length_word))]
     pub fn set_headers(&mut self, at: u32, tag: Tag, mark: u64, bytes: u32, place: u32, rest: Tag)
-        requires at { at + 3 < length self.old.words }
+        requires at { at + 2 < length self.old.words }
         requires place { place + 1 < length self.old.words }
-        ensures writes { Writes ((place + 1) ∷ place ∷ (at + 3) ∷ (at + 2) ∷ (at + 1) ∷ at ∷ []) (slice_set (slice_set (slice_set (slice_set (slice_set (slice_set self.old.words at (tag_word tag.size tag.last tag.free tag.back)) (at + 1) mark) (at + 2) (length_word bytes)) (at + 3) 0) place (tag_word rest.size rest.last rest.free rest.back)) (place + 1) mark) self.old self.new }
+        ensures writes { Writes ((place + 1) ∷ place ∷ (at + 2) ∷ (at + 1) ∷ at ∷ []) (slice_set (slice_set (slice_set (slice_set (slice_set self.old.words at (tag_word tag.size tag.last tag.free tag.back)) (at + 1) mark) (at + 2) (length_word bytes)) place (tag_word rest.size rest.last rest.free rest.back)) (place + 1) mark) self.old self.new }
     {
         self.words.write_both(
             at as usize,
