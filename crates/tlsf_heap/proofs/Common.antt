@@ -32,7 +32,7 @@ pub use Rattle.tlsf_heap.specs.Laws.{IsLive, IsTaken, IsGiven, IsGone, LieApart,
 pub use Rattle.tlsf_heap.specs.Moved.{resized_or_moved, copied, moved, is_nearly_worn, moved_for, moved_to, resized_else}
 pub use Rattle.tlsf_heap.specs.Named.{IsNamed, IsFirst, RefusesName, IsNameCheck, NoneNamed}
 unfoldable pub use Rattle.tlsf_heap.specs.Read.{blocks_of, block_in, blocks_from}
-pub use Rattle.tlsf_heap.specs.Regions.{RegionState, image_of, list_in, IsTagOf, AreRegions, IsInOrder, AwaitsTick, Relists, AreUnlisted, SameLists, EachAt, IsTagBehind, AreNeighbours, Edits, AreLinked, AreTagsAround, BeginsZero, OnlyReads, Rewrites, TakenOut, IsWithout, MovedToFront, AwaitsZeros, HasAt, IsNextTag, IsPreviousTag, PutInFront, rest_of, withheld, withheld_alone}
+pub use Rattle.tlsf_heap.specs.Regions.{RegionState, image_of, list_in, IsTagOf, AreRegions, IsInOrder, AwaitsTick, Relists, AreUnlisted, SameLists, EachAt, IsTagBehind, IsWhole, AreNeighbours, Edits, AreLinked, AreTagsAround, OnlyReads, Rewrites, TakenOut, IsWithout, MovedToFront, AwaitsZeros, HasAt, IsNextTag, IsPreviousTag, PutInFront, withheld, withheld_alone}
 pub use Rattle.tlsf_heap.specs.Reports.{free_among, live_among, IsGrant, largest_of, payload_in, report_of, is_served}
 unfoldable pub use Rattle.tlsf_heap.specs.Reports.{grant_of}
 pub use Rattle.tlsf_heap.specs.Shown.{Shown, seen, Seen}

@@ -8,7 +8,7 @@ use Rattle.tlsf_heap.specs.Aligned.{words_aligned, words_from, AnswersAligned, A
 use Rattle.tlsf_heap.specs.Around.{FindsChoice, IsAroundCheck, around_touches, request_touches}
 use Rattle.tlsf_heap.specs.Blocks.{want, IsPlace}
 use Rattle.tlsf_heap.specs.ByPlace.{kept_at, name_at, released_by_place, resized_by_place, resized_or_moved_by_place}
-use Rattle.tlsf_heap.specs.Calls.{allocated, allocated_words, last_tick, read_answer, read_of, released, reset, resized, resized_words, written}
+use Rattle.tlsf_heap.specs.Calls.{allocated_words, last_tick, read_answer, read_of, released, reset, resized, resized_words, written}
 use Rattle.tlsf_heap.specs.Checks.{FindsSound, IsCheck, block_touches}
 use Rattle.tlsf_heap.specs.Chosen.{NoneFits}
 use Rattle.tlsf_heap.specs.Footprint.{LeavesLive, LeavesPayloads}
@@ -49,14 +49,14 @@ pub record Allocates (most sli n len : ℕ) (old new : Seen) (answer : Result Na
   pub rise : old.touches ≤ new.touches
   pub leaves : LeavesLive old.heap.blocks old.touched new.touched
 
--- a request for `len` bytes that fills nothing, of at most this many touches, however many bytes. It answers as an allocate. Accepted,
--- it leaves what an allocate leaves and a write of the bytes that lie there; where it is refused, it leaves the heap
-pub record AllocatesUnset (most sli len : ℕ) (old new : Seen) (stored : Image) (answer : Result Name Refusal) : Type 0 where
-  pub answer_is : answer ≡ (allocated sli old.heap len).answer
-  pub heap : IfOk answer (λ name. new.heap ≡ unset_from (allocated sli old.heap len).heap name stored 0 len)
+-- a request of n words for `len` bytes that fills nothing, of at most this many touches, however many bytes. It answers as an allocate.
+-- Accepted, it leaves what an allocate leaves and a write of the bytes that lie there; where it is refused, it leaves the heap
+pub record AllocatesUnset (most sli n len : ℕ) (old new : Seen) (stored : Image) (answer : Result Name Refusal) : Type 0 where
+  pub answer_is : answer ≡ (allocated_words sli old.heap n len).answer
+  pub heap : IfOk answer (λ name. new.heap ≡ unset_from (allocated_words sli old.heap n len).heap name stored 0 len)
   pub unchanged : OnErr answer (new.heap ≡ old.heap)
-  pub no_fit : IsErrOf answer NoFit ↔ (fits sli (want len) old.heap.blocks ≡ [])
-  pub ok : IsOk answer ↔ (¬ (fits sli (want len) old.heap.blocks ≡ []) × ¬ (old.heap.tick ≡ last_tick))
+  pub no_fit : IsErrOf answer NoFit ↔ (fits sli n old.heap.blocks ≡ [])
+  pub ok : IsOk answer ↔ (¬ (fits sli n old.heap.blocks ≡ []) × ¬ (old.heap.tick ≡ last_tick))
   pub touches : new.touches ≤ old.touches + most
   pub rise : old.touches ≤ new.touches
   pub leaves : LeavesLive old.heap.blocks old.touched new.touched

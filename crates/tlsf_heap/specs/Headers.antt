@@ -26,12 +26,11 @@ pub record HasFree (words : List ℕ) (at size : ℕ) (last : Bool) (back stamp 
   pub tag : slice_index words at ≡ tag_word size last true back
   pub mark : slice_index words (at + 1) ≡ stamp
 
--- that of a live block with `len` bytes of payload, whose first word is zero
+-- that of a live block with `len` bytes of payload
 pub record HasLive (words : List ℕ) (at size : ℕ) (last : Bool) (back serial len : ℕ) : Type 0 where
   pub tag : slice_index words at ≡ tag_word size last false back
   pub mark : slice_index words (at + 1) ≡ serial
   pub bytes : slice_index words (at + 2) ≡ length_word len
-  pub first : slice_index words (at + 3) ≡ 0
 
 -- the header at a place names this one before it, unless the region ends there
 abbrev pub NamesBefore : List ℕ → List ℕ → ℕ → ℕ → Type 0

@@ -1,5 +1,6 @@
 -- The facts that each call keeps, and those that a refused one leaves.
 use Rattle.std.specs.Prelude.{◌≡◌, ℕ, ◌+◌, ◌≤◌, Result, OnErr}
+use Rattle.tlsf_class.specs.Classes.{IsLevel}
 use Rattle.tlsf_heap.specs.Footprint.{LeavesLive, LeavesPayloads}
 use Rattle.tlsf_heap.specs.FreePlaces.{ShowsLists}
 use Rattle.tlsf_heap.specs.Image.{Shows}
@@ -9,9 +10,10 @@ use Rattle.tlsf_heap.specs.WordsInUse.{words_in_use}
 use Rattle.tlsf_heap.specs.declared.refusal.Refusal.{Refusal}
 use Rattle.tlsf_words.specs.Touched.{InGroups}
 
--- the heap is lawful before and after, and its words, links and bits show its blocks and its free ones. It takes no memory and
--- gives none back, so no word moves, and the touches never fall. No more words are in use than the most that were ever
+-- the heap is of a level, lawful before and after, and its words, links and bits show its blocks and its free ones. It takes no memory
+-- and gives none back, so no word moves, and the touches never fall. No more words are in use than the most that were ever
 pub record Keeps (sli : ℕ) (old new : Shown) : Type 0 where
+  pub level : IsLevel sli
   pub was_lawful : IsLawful old.heap
   pub lawful : IsLawful new.heap
   pub shows : Shows new.stored new.heap.blocks

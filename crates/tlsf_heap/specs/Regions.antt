@@ -1,5 +1,5 @@
 -- A region as its blocks and the lists of its free blocks.
-use Rattle.std.specs.Prelude.{◌≡◌, ◌≢◌, ℕ, ◌+◌, ◌-◌, ◌<◌, ◌≤◌, ◌==◌, List, [], ◌∷◌, ◌++◌, nat_le, if◌then◌else◌, length, slice_index, slice_index_or, true, false}
+use Rattle.std.specs.Prelude.{◌≡◌, ◌≢◌, ℕ, ◌+◌, ◌<◌, ◌≤◌, ◌==◌, List, [], ◌∷◌, ◌++◌, length, slice_index_or, true, false}
 use Rattle.std.specs.List.{AllByRecursion}
 use Rattle.tlsf_class.specs.Classes.{IsLevel, most_words}
 use Rattle.tlsf_words.specs.Memory.{Memory, Extents}
@@ -37,10 +37,6 @@ EachAt blocks at P = (i : ℕ) → StandsAt blocks at i → P (site_at blocks i)
 -- a block begins at a place, and of it, where it stands, this holds
 abbrev pub HasAt : List Block → ℕ → (Site → Type 0) → Type 0
 HasAt blocks at P = (i : ℕ) × StandsAt blocks at i × P (site_at blocks i)
-
--- the rest that is split off a free block of this many words where `n` are wanted: four words or more, or none
-abbrev pub rest_of : ℕ → ℕ → ℕ
-rest_of size n = if nat_le (n + 4) size then size - n else 0
 
 -- the tag of a block in a region of this many words
 pub record IsTagOf (words : ℕ) (s : Site) (tag : Tag) : Type 0 where
@@ -88,21 +84,25 @@ withheld s = before_free s.before ++ Live (last_free s.before + size_of s.block 
 abbrev pub withheld_alone : Site → List Block
 withheld_alone s = s.before ++ Live (size_of s.block) 0 [] ∷ s.after
 
--- the tag of the free block after a block in a region of this many words; of size 0 where there is none
+-- the tag of the free block after a block in a region of this many words. Where there is none, it is a live one of size 0
 pub record IsTagBehind (words : ℕ) (s : Site) (tag : Tag) : Type 0 where
+  pub next : IsNextTag words s tag
   pub size : tag.size ≡ first_free s.after
+
+-- a block and the free block behind it in a region of this many words. They are how many words that has, 0 where there is none, and
+-- the tag of both as one free block
+pub record IsWhole (words : ℕ) (s : Site) (tag : Tag) (behind : ℕ) : Type 0 where
+  pub after : behind ≡ first_free s.after
+  pub size : tag.size ≡ size_of s.block + behind
+  pub free : tag.free ≡ true
   pub last : tag.last ≡ (place_of s + size_of s.block + first_free s.after == words)
+  pub back : tag.back ≡ back_behind 0 nowhere s.before
 
--- the first word of a payload is zero
-abbrev pub BeginsZero : List ℕ → Type 0
-BeginsZero bytes = (k : ℕ) → k < 8 → slice_index bytes k ≡ 0
-
--- a live block whose payload begins with a zero word, and ends within the `n` words after that, which are its own
+-- a live block whose payload ends within the `n` words behind its header, which are its own
 pub record AwaitsZeros (block : Block) (n : ℕ) : Type 0 where
   pub live : is_free block ≡ false
-  pub first : BeginsZero (bytes_of block)
-  pub payload : words_for (length (bytes_of block)) ≤ 4 + n
-  pub within : 4 + n ≤ size_of block
+  pub payload : words_for (length (bytes_of block)) ≤ 3 + n
+  pub within : 3 + n ≤ size_of block
 
 -- of the lists of all classes, that of one
 abbrev pub list_in : List (List ℕ) → ℕ → List ℕ

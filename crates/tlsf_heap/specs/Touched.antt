@@ -20,8 +20,8 @@ pub record FollowsNoPlace (h : HeapState) (at before behind : ℕ) : Type 0 wher
   pub outside : h.words ≤ at → behind ≡ before
   pub nowhere : ¬ (IsPlace h.blocks at) → behind ≤ before + 1
 
--- the most touches of an allocate. They are 3 to find the class, 7 to take its head out, 9 for the headers, and 7 to list the rest.
--- Each payload word that is made zero takes one more
+-- the most touches of an allocate that fills nothing, however many bytes. They are 3 to find the class, 7 to take its head out, 9 for
+-- the headers, and 7 to list the rest. One that fills takes one more for each payload word that is made zero
 abbrev pub allocate_touches : ℕ
 allocate_touches = 26
 
@@ -34,19 +34,14 @@ release_touches = 30
 abbrev pub release_at_touches : ℕ
 release_at_touches = 29
 
--- the most touches of an allocate that fills nothing, however many bytes. It makes fewer: they are those of an allocate but for its
--- zeros, with a payload word and the length
-abbrev pub allocate_unset_touches : ℕ
-allocate_unset_touches = 31
-
 -- the most touches of an allocate out of the free block that begins at a place, however many bytes
 abbrev pub allocate_from_touches : ℕ
-allocate_from_touches = 25
+allocate_from_touches = 24
 
--- the most touches of an aligned allocate, however many bytes. They are 26 for the allocate, 82 to move the block on, and 1 for the
--- length. Four are to spare
+-- the most touches of an aligned allocate, however many bytes. They are 26 for the allocate, 81 to move the block on, and 1 for the
+-- length
 abbrev pub allocate_aligned_touches : ℕ
-allocate_aligned_touches = 113
+allocate_aligned_touches = 108
 
 -- the most touches of a resize. They are 3 to check the name, 1 for the tag after it, and 6 to take that block out of its list.
 -- Then come 7 for the headers, 7 to list the rest, and 3 for the payload. Each payload word of the block left takes one more
@@ -62,10 +57,10 @@ resize_unset_touches = 30
 abbrev pub move_touches : ℕ
 move_touches = 88
 
--- the most touches of a resize or move that fills nothing. They are 30 for the resize that is refused, 31 for the allocate, and 35
+-- the most touches of a resize or move that fills nothing. They are 30 for the resize that is refused, 26 for the allocate, and 35
 -- for the copy and the release. Each eight bytes that stay take two more
 abbrev pub move_unset_touches : ℕ
-move_unset_touches = 96
+move_unset_touches = 91
 
 -- the most touches of a reset. They are 641 for the heads of the lists, 22 for the bitmaps, 3 for the header, and 7 to list the block.
 -- Each 64 start bits take one more

@@ -17,7 +17,6 @@ ghost use Rattle.tlsf_heap.specs.WordsInUse.{words_used};
 ghost use Rattle.tlsf_words.specs.Touched.{InGroups};
 
 use crate::region::Region;
-use crate::usage::Usage;
 use tlsf_class::{Class, class_of, most_words, search_of};
 use tlsf_words::Tag;
 
@@ -44,48 +43,14 @@ pub fn choose<const SLI: u32>(region: &mut Region<SLI>, words: u32) -> Option<Cl
     region.next_from(search_of(words))
 }
 
-/// Takes the head of the list of a class, a free block. Makes it a live one of `words` words with `len` bytes of payload. The rest
-/// stays a free block, unless it would have fewer than four words: then the whole block is given. Answers its place, and how many
-/// words it has. The last `spare` of the `words` aren't of its payload. Neither they nor the words that the block has above `words`
-/// are made zero. The words are in use from then on.
+/// Takes the head of the list of a class, a free block. Makes it a live one of `words` words with `len` bytes of payload, those that
+/// lie there. The rest stays a free block, unless it would have fewer than four words: then the whole block is given. Answers its
+/// place, and how many words it has.
 // Always inline. In a call of its own, as where several calls of a heap end in it, each of them takes fourteen to thirty
-// instructions more.
-// The serial comes by value, and is read once: for all that LLVM knows, the list's links are written where the tick lies.
+// instructions more. The serial comes by value, and is read once: for all that LLVM knows, the list's links are written where the
+// tick lies. The length goes into the header with the serial: set later, it lives over the listing of the rest.
 #[inline(always)]
 pub fn carve<const SLI: u32>(
-    region: &mut Region<SLI>,
-    usage: &mut Usage,
-    class: Class<SLI>,
-    words: u32,
-    serial: u64,
-    len: u32,
-    spare: u32,
-) -> Given
-    requires region { AwaitsTick SLI serial region.old }
-    requires payload { want len + spare ≤ words }
-    requires fits { (at : ℕ) × (i : ℕ) × IsHead SLI region.old.blocks (list_in region.old.lists) class at i × (is_free (block_at region.old.blocks i) ≡ true) × (words ≤ size_of (block_at region.old.blocks i)) }
-    requires in_use { usage.old.words ≡ words_used region.old.blocks }
-    ensures place { slice_get (list_in region.old.lists class.entry) 0 ≡ Some result.at }
-    ensures blocks { EachAt region.old.blocks result.at (λ s. region.new.blocks ≡ s.before ++ carved (size_of s.block) words serial len ++ s.after) }
-    ensures used { words_used region.new.blocks ≡ words_used region.old.blocks + result.words }
-    ensures usage { usage.new ≡ record { words = usage.old.words + result.words; most = max usage.old.most (usage.old.words + result.words) } }
-    ensures listed { AreFreeLists SLI region.new.blocks (list_in region.new.lists) }
-    ensures touched { LeavesLive region.old.blocks region.old.touched region.new.touched }
-    ensures edits { (i : ℕ) → StandsAt region.old.blocks result.at i → Edits region.old region.new (23 + (payload_words (block_at region.new.blocks i) - spare)) }
-    ensures groups { InGroups (11 + groups_of (words - 4 - spare)) region.old.touched region.new.touched }
-{
-    let given = carve_unset(region, class, words, serial, len);
-    // The words are counted first, and the zeros come last, so that few registers are wanted at once.
-    usage.give(given.words);
-    region.zero(given.at, words - 4 - spare);
-    given
-}
-
-/// Takes the head of the list of a class, as `carve`, and fills nothing. The payload of the block has the bytes that lie there, whose
-/// first word is made zero.
-// Always inline, as `carve` is. The length goes into the header with the serial: set later, it lives over the listing of the rest.
-#[inline(always)]
-pub fn carve_unset<const SLI: u32>(
     region: &mut Region<SLI>,
     class: Class<SLI>,
     words: u32,
@@ -96,23 +61,23 @@ pub fn carve_unset<const SLI: u32>(
     requires payload { want len ≤ words }
     requires fits { (at : ℕ) × (i : ℕ) × IsHead SLI region.old.blocks (list_in region.old.lists) class at i × (is_free (block_at region.old.blocks i) ≡ true) × (words ≤ size_of (block_at region.old.blocks i)) }
     ensures place { slice_get (list_in region.old.lists class.entry) 0 ≡ Some result.at }
-    ensures carved { EachAt region.old.blocks result.at (λ s. CarvedUnset SLI region.old region.new s result.at words serial len 24) }
+    ensures carved { EachAt region.old.blocks result.at (λ s. CarvedUnset SLI region.old region.new s result.at words serial len 23) }
     ensures used { words_used region.new.blocks ≡ words_used region.old.blocks + result.words }
     ensures touched { LeavesLive region.old.blocks region.old.touched region.new.touched }
     ensures groups { InGroups 11 region.old.touched region.new.touched }
 {
     let at = region.pop_first(class);
     let own = region.tag(at);
-    let words = give_unset(region, at, own, words, serial, len);
+    let words = give(region, at, own, words, serial, len);
     Given { at, words }
 }
 
-/// Makes the free block at a place a live one of `words` words with `len` bytes of payload, and fills nothing. The payload has the
-/// bytes that lie there, whose first word is made zero. The free block has this tag and is in no list. The rest stays a free block,
-/// unless it would have fewer than four words: then the whole block is given. Answers how many words it has.
+/// Makes the free block at a place a live one of `words` words with `len` bytes of payload, those that lie there. The free block has
+/// this tag and is in no list. The rest stays a free block, unless it would have fewer than four words: then the whole block is
+/// given. Answers how many words it has.
 // Always inline, as `carve` is.
 #[inline(always)]
-pub fn give_unset<const SLI: u32>(
+pub fn give<const SLI: u32>(
     region: &mut Region<SLI>,
     at: u32,
     own: Tag,
@@ -128,7 +93,7 @@ pub fn give_unset<const SLI: u32>(
     requires small { words_in region.old.blocks ≤ most_words SLI }
     requires listed { EachAt region.old.blocks at (λ s. AreFreeLists SLI (withheld_alone s) (list_in region.old.lists)) }
     requires stamped { AllByRecursion (λ s. s < serial) (stamps region.old.blocks) }
-    ensures carved { EachAt region.old.blocks at (λ s. CarvedUnset SLI region.old region.new s at words serial len 16) }
+    ensures carved { EachAt region.old.blocks at (λ s. CarvedUnset SLI region.old region.new s at words serial len 15) }
     ensures used { words_used region.new.blocks ≡ words_used region.old.blocks + result }
     ensures touched { LeavesLive region.old.blocks region.old.touched region.new.touched }
     ensures groups { InGroups 7 region.old.touched region.new.touched }

@@ -56,21 +56,21 @@ pub fn first_header(words: &mut Words, stamp: u64)
     words.set_start(0, true);
 }
 
-/// Writes the header of a live block of this tag, with `len` bytes of payload, and makes its first payload word zero.
+/// Writes the header of a live block of this tag, with `len` bytes of payload.
 pub fn live_header(words: &mut Words, at: u32, tag: Tag, serial: u64, len: u32)
     requires live { tag.free ≡ false }
     requires least { 4 ≤ tag.size }
     requires within { at + tag.size ≤ length words.old.words }
     ensures change { Wholes (image_of words.old) (image_of words.new) at tag serial len }
     ensures stays { words.new.extents ≡ words.old.extents }
-    ensures touches { words.new.touches ≡ words.old.touches + 4 }
-    ensures touched { words.new.touched ≡ (at + 3) ∷ (at + 2) ∷ (at + 1) ∷ at ∷ words.old.touched }
+    ensures touches { words.new.touches ≡ words.old.touches + 3 }
+    ensures touched { words.new.touched ≡ (at + 2) ∷ (at + 1) ∷ at ∷ words.old.touched }
 {
     words.set_header(at, tag, serial, len);
 }
 
 /// Makes the free block at a place, of this tag, a live one of `size` words with `len` bytes of payload. A free rest of its tag
-/// stays. The first word of the payload is zero. The serial of the first is the stamp of the rest.
+/// stays. The serial of the first is the stamp of the rest.
 #[tactic(auto, using(tlsf_words::proofs::Touching::times_other))]
 pub fn split_header(
     words: &mut Words,
@@ -90,8 +90,8 @@ pub fn split_header(
     requires small { length words.old.words ≤ 2 ^ 24 }
     ensures change { Splits (image_of words.old) (image_of words.new) at tag size serial len }
     ensures stays { words.new.extents ≡ words.old.extents }
-    ensures touches { RisesBy words.old.touches words.new.touches 9 }
-    ensures touched { (k : ℕ) → k ≢ at → k ≢ at + 1 → k ≢ at + 2 → k ≢ at + 3 → k ≢ at + size → k ≢ at + size + 1 → k ≢ at + tag.size → times words.new.touched k ≡ times words.old.touched k }
+    ensures touches { RisesBy words.old.touches words.new.touches 8 }
+    ensures touched { (k : ℕ) → k ≢ at → k ≢ at + 1 → k ≢ at + 2 → k ≢ at + size → k ≢ at + size + 1 → k ≢ at + tag.size → times words.new.touched k ≡ times words.old.touched k }
 {
     let place = at + size;
     words.set_headers(at, tag.without(rest), serial, len, place, rest);
@@ -137,11 +137,12 @@ pub fn merge_headers(
     set_back(words, tag, end, place);
 }
 
-/// Writes the header of a live block of this tag. The live block at a place becomes it, with the `after` free words after it,
-/// `both` words together. Its mark, its length and its payload stay.
+/// Makes the live block at a place and the `after` free words after it a live block of all their words. Together they have this free
+/// tag. The mark, the length and the payload stay.
 #[tactic(auto, using(tlsf_words::proofs::Touching::times_other))]
-pub fn widen_header(words: &mut Words, at: u32, both: u32, tag: Tag, after: u32)
-    requires both { both ≡ tag.size }
+pub fn widen_header(words: &mut Words, at: u32, tag: Tag, after: u32)
+    requires free { tag.free ≡ true }
+    requires some { 0 < after }
     requires after { after + 4 ≤ tag.size }
     requires within { at + tag.size ≤ length words.old.words }
     requires last { tag.last ≡ (at + tag.size == length words.old.words) }
@@ -151,26 +152,28 @@ pub fn widen_header(words: &mut Words, at: u32, both: u32, tag: Tag, after: u32)
     ensures touches { RisesBy words.old.touches words.new.touches 4 }
     ensures touched { (k : ℕ) → k ≢ at → k ≢ at + tag.size → times words.new.touched k ≡ times words.old.touched k }
 {
-    let end = at + both;
-    clear_start(words, end - after, after, after > 0);
+    let end = at + tag.size();
+    clear_start(words, end - after, after, true);
     set_back(words, tag, end, at);
-    let live = tag.as_live();
-    words.set_tag(at, live);
+    words.set_tag(at, tag.granted());
 }
 
 /// Makes the live block at a place and the `after` free words after it a live block of `size` words and a free rest. Together they
-/// are `both` words of this free tag. The mark, the length and the payload of the first stay.
+/// have this free tag. `merges` says whether there are such words: callers know, so that no size is tested. The mark, the length and
+/// the payload of the first stay.
+#[inline(always)]
 #[tactic(auto, using(tlsf_words::proofs::Touching::times_other))]
 pub fn recut_header(
     words: &mut Words,
     at: u32,
-    both: u32,
     tag: Tag,
     after: u32,
+    merges: bool,
     size: u32,
     stamp: u64,
 )
-    requires both { both ≡ tag.size }
+    requires some { merges ≡ true → 0 < after }
+    requires none { merges ≡ false → after ≡ 0 }
     requires free { tag.free ≡ true }
     requires least { 4 ≤ size }
     requires room { size + 4 ≤ tag.size }
@@ -183,14 +186,16 @@ pub fn recut_header(
     ensures touches { RisesBy words.old.touches words.new.touches 7 }
     ensures touched { (k : ℕ) → k ≢ at → k ≢ at + size → k ≢ at + size + 1 → k ≢ at + tag.size → times words.new.touched k ≡ times words.old.touched k }
 {
-    let behind = at + both;
-    clear_start(words, behind - after, after, after > 0);
+    let behind = at + tag.size();
     let place = at + size;
     let rest = tag.rest(size, at);
+
+    // The tags first, so that few registers are wanted at once.
+    words.set_tag(at, tag.without(rest));
     free_header(words, place, rest, stamp);
+    clear_start(words, behind - after, after, merges);
     words.set_start(place, true);
     set_back(words, rest, behind, place);
-    words.set_tag(at, tag.without(rest));
 }
 
 /// Says that no block starts at a place where a block is merged with `size` words of a neighbour. Where that is 0 there is none.

@@ -34,7 +34,7 @@ mod reset;
 mod tells;
 mod unset;
 
-use crate::fitting::{carve, choose, coalesce};
+use crate::fitting::coalesce;
 use crate::name::Name;
 use crate::open_fault::OpenFault;
 use crate::placed_block::PlacedBlock;
@@ -193,30 +193,12 @@ impl<const SLI: u32> Heap<SLI> {
         // The block given has the words wanted.
         ensures room { IfOk result (λ name. words ≤ 3 + payload_words_at (named name self.new.heap.blocks)) }
     {
-        let spare = words - want(len);
-        let Some(class) = choose(&mut self.region, words) else {
-            return Err(Refusal::NoFit);
+        let name = match self.allocate_unset_words(words, len) {
+            Ok(name) => name,
+            Err(why) => return Err(why),
         };
-        if self.tick == u64::MAX {
-            return Err(Refusal::Worn);
-        }
-        let given = carve(
-            &mut self.region,
-            &mut self.usage,
-            class,
-            words,
-            self.tick,
-            len,
-            spare,
-        );
-        // Read again: a register that outlives the zeroing costs more.
-        let serial = self.tick;
-        self.tick += 1;
-        Ok(Name {
-            heap: self.id,
-            at: given.at,
-            serial,
-        })
+        self.zero_payload(name, len);
+        Ok(name)
     }
 
     /// Takes back the block of that name, merges it with its free neighbours (ECRTS 2004, section 4), and stamps it with the tick.
@@ -662,7 +644,6 @@ impl<const SLI: u32> Heap<SLI> {
         requires room { Blocks.words_for len ≤ 3 + payload_words_at (named name self.old.heap.blocks) }
         ensures heap { self.new.heap ≡ with_payload self.old.heap name (lying self.new.stored name.at len) }
         ensures lies { lying self.new.stored name.at len ≡ lying self.old.stored name.at len }
-        ensures level { IsLevel SLI }
         ensures frame { DoesPart SLI 1 1 self.old self.new }
         ensures leaves { LeavesLive self.old.heap.blocks self.old.touched self.new.touched }
     {

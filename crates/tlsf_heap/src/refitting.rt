@@ -1,15 +1,13 @@
 //! Resizing a block where it stands, over a region and the lists of its free blocks. Sizes and places are in words, lengths in bytes.
-ghost use Rattle.std.specs.Prelude.{◌≡◌, ◌≢◌, ℕ, ◌+◌, ◌-◌, ◌/◌, ◌<◌, ◌≤◌, ◌++◌, false, length, Contains};
+ghost use Rattle.std.specs.Prelude.{◌≡◌, ◌+◌, ◌-◌, ◌/◌, ◌<◌, ◌≤◌, ◌++◌, true, false, length};
 ghost use Rattle.std.specs.List.{AllByRecursion};
-ghost use Rattle.tlsf_class.specs.Classes.{IsLevel, class_of};
-ghost use Rattle.tlsf_words.specs.Lists.{without_place};
 ghost use Rattle.tlsf_words.specs.Touched.{InGroups};
-ghost use Rattle.tlsf_heap.specs.Lawful.{IsRegion, HasRoom};
+ghost use Rattle.tlsf_heap.specs.Lawful.{HasRoom};
 ghost use Rattle.tlsf_heap.specs.Blocks.{is_free, bytes_of, words_for};
 ghost use Rattle.tlsf_heap.specs.Calls;
 ghost use Rattle.tlsf_heap.specs.FreePlaces.{AreFreeLists};
 ghost use Rattle.tlsf_heap.specs.Footprint.{LeavesLive, LeavesPayloads};
-ghost use Rattle.tlsf_heap.specs.Regions.{EachAt, HasAt, IsTagOf, IsTagBehind, list_in, OnlyReads, IsInOrder, AwaitsTick, Edits, Relists};
+ghost use Rattle.tlsf_heap.specs.Regions.{EachAt, HasAt, IsTagOf, IsNextTag, IsTagBehind, list_in, OnlyReads, IsInOrder, AwaitsTick, Edits, Relists};
 ghost use Rattle.tlsf_heap.specs.WordsInUse.{words_used};
 
 use crate::fitting::next_tag;
@@ -19,6 +17,7 @@ use tlsf_words::Tag;
 
 /// The tag of the free block behind the block at a place, of this tag. Its size is 0 where the block behind is live or the region
 /// ends.
+#[inline]
 pub fn look_behind<const SLI: u32>(region: &mut Region<SLI>, at: u32, own: Tag) -> Tag
     requires own { HasAt region.old.blocks at (λ s. IsTagOf region.old.words s own) }
     requires region { IsInOrder SLI region.old }
@@ -31,34 +30,15 @@ pub fn look_behind<const SLI: u32>(region: &mut Region<SLI>, at: u32, own: Tag) 
     if next.is_free() {
         next
     } else {
-        Tag::new(0, false, own.is_last(), own.back())
-    }
-}
-
-/// Takes the free block of this size at a place out of the list of its class. Where the size is 0 there is none.
-fn forget<const SLI: u32>(region: &mut Region<SLI>, at: u32, size: u32)
-    requires level { IsLevel SLI }
-    requires sized { 0 < size → IsRegion SLI size }
-    requires listed { 0 < size → Contains (list_in region.old.lists (class_of SLI size)) at }
-    ensures list { 0 < size → list_in region.new.lists (class_of SLI size) ≡ without_place at (list_in region.old.lists (class_of SLI size)) }
-    ensures others { (other : ℕ) → other ≢ class_of SLI size → list_in region.new.lists other ≡ list_in region.old.lists other }
-    ensures none { size ≡ 0 → region.new.lists ≡ region.old.lists }
-    ensures blocks { region.new.blocks ≡ region.old.blocks }
-    ensures words { region.new.words ≡ region.old.words }
-    ensures stays { region.new.extents ≡ region.old.extents }
-    ensures touches { region.new.touches ≤ region.old.touches + 6 }
-    ensures rise { region.old.touches ≤ region.new.touches }
-    ensures touched { LeavesLive region.old.blocks region.old.touched region.new.touched }
-    ensures groups { InGroups 3 region.old.touched region.new.touched }
-{
-    if size > 0 {
-        region.remove(size, at);
+        Tag::new(0, false, false, 0)
     }
 }
 
 /// Makes the live block at a place and the free block after it one live block of `words` words and a free rest. The tags are those
 /// of these blocks. Where the rest would have fewer than four words, it makes a live block of them all. The payload stays. Answers
 /// the words of the live block.
+// Never inline: a resize that finds no free block then saves no registers for it.
+#[inline(never)]
 fn recut<const SLI: u32>(
     region: &mut Region<SLI>,
     at: u32,
@@ -71,7 +51,8 @@ fn recut<const SLI: u32>(
     requires least { 4 ≤ words }
     requires live { HasAt region.old.blocks at (λ s. (is_free s.block ≡ false) × (words_for (length (bytes_of s.block)) ≤ words)) }
     requires own { EachAt region.old.blocks at (λ s. IsTagOf region.old.words s own) }
-    requires next { EachAt region.old.blocks at (λ s. IsTagBehind region.old.words s next) }
+    requires next { EachAt region.old.blocks at (λ s. IsNextTag region.old.words s next) }
+    requires some { next.free ≡ true }
     requires room { words ≤ own.size + next.size }
     ensures blocks { EachAt region.old.blocks at (λ s. region.new.blocks ≡ s.before ++ Calls.recut tick words s.block s.after) }
     ensures least { words ≤ result }
@@ -79,13 +60,17 @@ fn recut<const SLI: u32>(
     ensures used { words_used region.new.blocks + own.size ≡ words_used region.old.blocks + result }
     ensures relists { Relists SLI at 20 9 region.old region.new }
 {
-    forget(region, at + own.size(), next.size());
-    let rest = region.recut(at, own, next, words, tick);
-    if rest > 0 {
-        region.push(class_of(rest), at + words);
-        return words;
+    let after = next.size();
+    region.remove(after, at + own.size());
+    let whole = own.with_next(next);
+    let both = whole.size();
+    if both < words + 4 {
+        region.widen(at, whole, after);
+        return both;
     }
-    own.size() + next.size()
+    let rest = region.recut(at, whole, after, true, words, tick);
+    region.push(class_of(rest), at + words);
+    words
 }
 
 /// Gives the live block at a place, of this tag, `len` bytes of payload, for which more words are wanted than it has. The free block of
@@ -166,8 +151,8 @@ pub fn shrink<const SLI: u32>(
 
 /// Cuts the live block at a place, of this tag, at `words` words, where it has four more at least. Those behind are one free block
 /// with the free block that follows.
-// Always inline, as `grow` is.
-#[inline(always)]
+// Never inline, as `recut` is.
+#[inline(never)]
 fn split_off<const SLI: u32>(region: &mut Region<SLI>, at: u32, own: Tag, words: u32, tick: u64)
     requires region { AwaitsTick SLI tick region.old }
     requires least { 4 ≤ words }
@@ -178,6 +163,11 @@ fn split_off<const SLI: u32>(region: &mut Region<SLI>, at: u32, own: Tag, words:
     ensures used { words_used region.new.blocks + own.size ≡ words_used region.old.blocks + words }
     ensures relists { Relists SLI at 21 10 region.old region.new }
 {
-    let next = look_behind(region, at, own);
-    recut(region, at, own, next, words, tick);
+    let behind = next_tag(region, at, own);
+    if behind.is_free() {
+        recut(region, at, own, behind, words, tick);
+        return;
+    }
+    let rest = region.recut(at, own.as_free(), 0, false, words, tick);
+    region.push(class_of(rest), at + words);
 }

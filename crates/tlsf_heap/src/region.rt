@@ -1,5 +1,5 @@
 ghost use Rattle.std.specs.Fn.{FnOnceReturnsAt, FnOnceReturnsAtMut, FnOnceTakesAt, FnOnceTakesAtMut};
-ghost use Rattle.std.specs.Prelude.{◌≡◌, ◌≢◌, ◌↔◌, ℕ, ◌+◌, ◌*◌, ◌/◌, ◌-◌, ◌<◌, ◌≤◌, ◌^◌, [], ◌∷◌, ◌++◌, false, true, length, take, drop, replicate, Some, slice_get, Contains, IfOk};
+ghost use Rattle.std.specs.Prelude.{◌≡◌, ◌≢◌, ◌↔◌, ℕ, ◌+◌, ◌*◌, ◌/◌, ◌-◌, ◌<◌, ◌≤◌, [], ◌∷◌, ◌++◌, false, true, length, take, drop, replicate, Some, slice_get, Contains, IfOk};
 ghost use Rattle.std.specs.List.{AllByRecursion};
 ghost use Rattle.tlsf_class.specs.Classes.{IsLevel, most_words, class_of};
 ghost use Rattle.tlsf_class.specs.Members.{next_member};
@@ -22,7 +22,7 @@ ghost use Rattle.tlsf_heap.specs.Lawful.{HasRoom};
 ghost use Rattle.tlsf_heap.specs.Named.{IsNameTest};
 ghost use Rattle.tlsf_heap.specs.Placed.{placed_at};
 ghost use Rattle.tlsf_heap.specs.Touched.{groups_of, reset_touches};
-ghost use Rattle.tlsf_heap.specs.Regions.{list_in, AreUnlisted, EachAt, HasAt, IsTagOf, IsTagBehind, AreNeighbours, rest_of, BeginsZero, AwaitsZeros, image_of, OnlyReads, Edits, Rewrites, PutInFront, TakenOut, IsOpened};
+ghost use Rattle.tlsf_heap.specs.Regions.{list_in, AreUnlisted, EachAt, HasAt, IsTagOf, AreNeighbours, IsWhole, AwaitsZeros, image_of, OnlyReads, Edits, Rewrites, PutInFront, TakenOut, IsOpened};
 
 mod around;
 
@@ -352,46 +352,59 @@ impl<const SLI: u32> Region<SLI> {
         self.words.set_length(at, len);
     }
 
-    /// Makes the live block at a place and the free block after it one live block of `size` words and a free rest. The tags are
-    /// those of these blocks. Where the rest would have fewer than four words, it makes a live block of them all. The payload
-    /// stays. Answers the size of the rest, or 0.
-    pub fn recut(&mut self, at: u32, own: Tag, next: Tag, size: u32, stamp: u64) -> u32
+    /// Makes the live block at a place and the free block after it a live block of `size` words and a free rest. Together they have
+    /// this free tag, and four words more at least. The free block has `after` words. Where there is none, that is 0, and `merges` is
+    /// false. The payload stays. Answers the size of the rest.
+    #[inline(always)]
+    pub fn recut(
+        &mut self,
+        at: u32,
+        whole: Tag,
+        after: u32,
+        merges: bool,
+        size: u32,
+        stamp: u64,
+    ) -> u32
+        requires merged { (merges ≡ true → 0 < after) × (merges ≡ false → after ≡ 0) }
         requires least { 4 ≤ size }
+        requires room { size + 4 ≤ whole.size }
         requires live { HasAt self.old.blocks at (λ s. (is_free s.block ≡ false) × (words_for (length (bytes_of s.block)) ≤ size)) }
-        requires own { EachAt self.old.blocks at (λ s. IsTagOf self.old.words s own) }
-        requires next { EachAt self.old.blocks at (λ s. IsTagBehind self.old.words s next) }
-        requires room { size ≤ own.size + next.size }
-        requires small { own.size + next.size ≤ 2 ^ 24 }
-        requires unlisted { AreUnlisted (list_in self.old.lists) at (at + own.size + next.size) }
-        ensures rest { result ≡ rest_of (own.size + next.size) size }
+        requires whole { EachAt self.old.blocks at (λ s. IsWhole self.old.words s whole after) }
+        requires unlisted { AreUnlisted (list_in self.old.lists) at (at + whole.size) }
+        ensures rest { result ≡ whole.size - size }
         ensures touched { LeavesPayloads self.old.blocks at self.old.touched self.new.touched }
         ensures change { EachAt self.old.blocks at (λ s. Rewrites self.old self.new (s.before ++ Calls.recut stamp size s.block s.after) 7) }
         ensures groups { InGroups 4 self.old.touched self.new.touched }
     {
-        let after = next.size();
-        let both = own.size() + after;
-        let whole = Tag::new(both, true, next.is_last(), own.back());
-        if both < size + 4 {
-            widen_header(&mut self.words, at, both, whole, after);
-            return 0;
-        }
-        recut_header(&mut self.words, at, both, whole, after, size, stamp);
-        both - size
+        recut_header(&mut self.words, at, whole, after, merges, size, stamp);
+        whole.size() - size
     }
 
-    /// Makes the free block at a place a live one of all its words with `len` bytes of payload. The free block has this tag and is
-    /// in no list. Answers how many words it has. Its payload begins with a zero word, and otherwise stays as it stood: `zero`
-    /// comes last.
+    /// Makes the live block at a place and the free block of `after` words after it one live block of all their words. Together they
+    /// have this free tag. The payload stays. It is as a `recut` to as many words as leave no rest.
+    pub fn widen(&mut self, at: u32, whole: Tag, after: u32)
+        requires some { 0 < after }
+        requires live { HasAt self.old.blocks at (λ s. is_free s.block ≡ false) }
+        requires whole { EachAt self.old.blocks at (λ s. IsWhole self.old.words s whole after) }
+        requires unlisted { AreUnlisted (list_in self.old.lists) at (at + whole.size) }
+        ensures touched { LeavesPayloads self.old.blocks at self.old.touched self.new.touched }
+        ensures change { (size stamp : ℕ) → whole.size < size + 4 → EachAt self.old.blocks at (λ s. Rewrites self.old self.new (s.before ++ Calls.recut stamp size s.block s.after) 4) }
+        ensures groups { InGroups 2 self.old.touched self.new.touched }
+    {
+        widen_header(&mut self.words, at, whole, after);
+    }
+
+    /// Makes the free block at a place a live one of all its words with `len` bytes of payload, those that lie there. The free block
+    /// has this tag and is in no list. Answers how many words it has.
     pub fn grant(&mut self, at: u32, own: Tag, serial: u64, len: u32) -> u32
         requires own { HasAt self.old.blocks at (λ s. IsTagOf self.old.words s own) }
         requires free { own.free ≡ true }
         requires payload { words_for len ≤ own.size }
         requires unlisted { EachAt self.old.blocks at (λ s. AreUnlisted (list_in self.old.lists) at (at + size_of s.block)) }
         ensures size { result ≡ own.size }
-        ensures first { BeginsZero (bytes_in self.new.stored.words (payload_byte at 0) len) }
         ensures touched { LeavesLive self.old.blocks self.old.touched self.new.touched }
         ensures change { EachAt self.old.blocks at (λ s. Rewrites self.old self.new
-            (s.before ++ (Live (size_of s.block) serial (bytes_in self.new.stored.words (payload_byte at 0) len) ∷ []) ++ s.after) 4) }
+            (s.before ++ (Live (size_of s.block) serial (bytes_in self.new.stored.words (payload_byte at 0) len) ∷ []) ++ s.after) 3) }
         ensures groups { InGroups 2 self.old.touched self.new.touched }
     {
         let live = own.granted();
@@ -399,9 +412,8 @@ impl<const SLI: u32> Region<SLI> {
         live.size()
     }
 
-    /// Makes the free block at a place a live one of `size` words with `len` bytes of payload. The free block has this tag and is
-    /// in no list. The rest stays a free block of its tag. The payload begins with a zero word, and otherwise stays as it stood:
-    /// `zero` comes last.
+    /// Makes the free block at a place a live one of `size` words with `len` bytes of payload, those that lie there. The free block
+    /// has this tag and is in no list. The rest stays a free block of its tag.
     pub fn split(&mut self, at: u32, own: Tag, rest: Tag, size: u32, serial: u64, len: u32)
         requires own { HasAt self.old.blocks at (λ s. IsTagOf self.old.words s own) }
         requires free { own.free ≡ true }
@@ -409,16 +421,15 @@ impl<const SLI: u32> Region<SLI> {
         requires payload { want len ≤ size }
         requires room { size + 4 ≤ own.size }
         requires unlisted { EachAt self.old.blocks at (λ s. AreUnlisted (list_in self.old.lists) at (at + size_of s.block)) }
-        ensures first { BeginsZero (bytes_in self.new.stored.words (payload_byte at 0) len) }
         ensures touched { LeavesLive self.old.blocks self.old.touched self.new.touched }
         ensures change { EachAt self.old.blocks at (λ s. Rewrites self.old self.new
-            (s.before ++ (Live size serial (bytes_in self.new.stored.words (payload_byte at 0) len) ∷ Free (size_of s.block - size) serial ∷ []) ++ s.after) 9) }
+            (s.before ++ (Live size serial (bytes_in self.new.stored.words (payload_byte at 0) len) ∷ Free (size_of s.block - size) serial ∷ []) ++ s.after) 8) }
         ensures groups { InGroups 5 self.old.touched self.new.touched }
     {
         split_header(&mut self.words, at, own, rest, size, serial, len);
     }
 
-    /// Makes the payload of the live block at a place zero after its first word, which is: the `n` words after that one.
+    /// Makes the payload of the live block at a place zero: the `n` words behind its header.
     pub fn zero(&mut self, at: u32, n: u32)
         requires { HasAt self.old.blocks at (λ s. AwaitsZeros s.block n) }
         ensures change { EachAt self.old.blocks at (λ s. Rewrites self.old self.new
@@ -426,7 +437,7 @@ impl<const SLI: u32> Region<SLI> {
         ensures touched { LeavesPayloads self.old.blocks at self.old.touched self.new.touched }
         ensures groups { InGroups (groups_of n) self.old.touched self.new.touched }
     {
-        self.words.zero(at + 4, n);
+        self.words.zero(at + 3, n);
     }
 
     /// Makes the live block at a place, of this tag, neither of whose neighbours is free, a free one.

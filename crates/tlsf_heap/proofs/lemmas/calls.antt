@@ -16,6 +16,7 @@ pub mod GivenBack
 pub mod ResizeOrMove
 pub mod Unset
 pub mod AllocateUnset
+pub mod Filled
 pub mod OtherBytes
 pub mod AllocateAligned
 pub mod Reports

@@ -14,7 +14,7 @@ ghost use Rattle.tlsf_heap.specs.WordsInUse.{words_in_use, peak_of};
 ghost use Rattle.tlsf_words.specs.Touched.{InGroups};
 
 use super::{Heap, want};
-use crate::fitting::give_unset;
+use crate::fitting::give;
 use crate::name::Name;
 use crate::refusal::Refusal;
 use tlsf_class::most_words;
@@ -53,7 +53,7 @@ impl<const SLI: u32> Heap<SLI> {
         ensures allocates { AllocatesFrom allocate_from_touches len (seen self.old) (seen self.new) self.new.stored at result }
 
         // A refusal changes nothing.
-        ensures frame { Settles SLI 13 (peak_of self.old self.new) self.old self.new result }
+        ensures frame { Settles SLI 12 (peak_of self.old self.new) self.old self.new result }
     {
         let name = match self.words_from(at, want(len)) {
             Ok(name) => name,
@@ -80,7 +80,7 @@ impl<const SLI: u32> Heap<SLI> {
         ensures allocates { AllocatesAligned allocate_aligned_touches SLI len (max step 1) skew (seen self.old) (seen self.new) self.new.stored result }
 
         // A refusal changes nothing.
-        ensures frame { Settles SLI 56 (peak_of self.old self.new) self.old self.new result }
+        ensures frame { Settles SLI 53 (peak_of self.old self.new) self.old self.new result }
     {
         if self.tick >= u64::MAX - 3 {
             return Err(Refusal::Worn);
@@ -91,7 +91,7 @@ impl<const SLI: u32> Heap<SLI> {
         }
         let words = want(len);
         let most = self.usage.most;
-        let first = match self.allocate_words(words + 4 + step, 0) {
+        let first = match self.allocate_unset_words(words + 4 + step, 0) {
             Ok(first) => first,
             Err(why) => return Err(why),
         };
@@ -127,9 +127,9 @@ impl<const SLI: u32> Heap<SLI> {
         ensures heap { self.new.heap ≡ (moved_on self.old.heap name gap words).heap }
         ensures ok { IsOk result }
         ensures keeps { Keeps SLI self.old self.new }
-        ensures touches { self.new.touches ≤ self.old.touches + 82 }
+        ensures touches { self.new.touches ≤ self.old.touches + 81 }
         ensures leaves { LeavesPayloads self.old.heap.blocks name.at self.old.touched self.new.touched }
-        ensures groups { InGroups 42 self.old.touched self.new.touched }
+        ensures groups { InGroups 41 self.old.touched self.new.touched }
     {
         if gap == 0 {
             self.resize_words(name, words, 0)?;
@@ -147,8 +147,8 @@ impl<const SLI: u32> Heap<SLI> {
         ensures answer { result ≡ (words_from self.old.heap at words).answer }
         ensures heap { self.new.heap ≡ (words_from self.old.heap at words).heap }
         ensures cases { AnswersFrom self.old.heap at words result }
-        ensures frame { Settles SLI 12 (peak_of self.old self.new) self.old self.new result }
-        ensures touches { self.new.touches ≤ self.old.touches + 24 }
+        ensures frame { Settles SLI 11 (peak_of self.old self.new) self.old self.new result }
+        ensures touches { self.new.touches ≤ self.old.touches + 23 }
         ensures leaves { LeavesLive self.old.heap.blocks self.old.touched self.new.touched }
         ensures wild { FollowsNoPlace self.old.heap at self.old.touches self.new.touches }
         ensures unread { ¬ (Blocks.IsPlace self.old.heap.blocks at) → self.new.touched ≡ self.old.touched }
@@ -165,7 +165,7 @@ impl<const SLI: u32> Heap<SLI> {
         }
         self.region.remove(size, at);
         let serial = self.tick;
-        let given = give_unset(&mut self.region, at, own, words, serial, 0);
+        let given = give(&mut self.region, at, own, words, serial, 0);
         self.usage.give(given);
         self.tick = serial + 1;
         Ok(Name {

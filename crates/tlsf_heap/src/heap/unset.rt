@@ -1,20 +1,22 @@
-ghost use Rattle.std.specs.Prelude.{◌≡◌, ◌+◌, ◌*◌, ◌/◌, ◌≤◌, length, min, IfOk, OnOk, OnErr, IsOk, Ok};
+ghost use Rattle.std.specs.Prelude.{◌≡◌, ◌+◌, ◌-◌, ◌*◌, ◌/◌, ◌≤◌, length, min, replicate, IfOk, OnOk, OnErr, IsOk, Ok};
+ghost use Rattle.tlsf_heap.specs.Blocks;
 ghost use Rattle.tlsf_heap.specs.ByPlace.{kept_at};
 ghost use Rattle.tlsf_heap.specs.Calls.{resized};
 ghost use Rattle.tlsf_heap.specs.Effects.{AllocatesUnset, MovesUnset, MovesUnsetAt, ResizesUnset};
+ghost use Rattle.tlsf_heap.specs.Footprint.{LeavesPayloads};
 ghost use Rattle.tlsf_heap.specs.InPlace.{payload_of};
 ghost use Rattle.tlsf_heap.specs.Laws.{IsLive};
 ghost use Rattle.tlsf_heap.specs.Moved.{moved, resized_or_moved};
 ghost use Rattle.tlsf_heap.specs.Named.{IsNameCheck};
-ghost use Rattle.tlsf_heap.specs.Touched.{allocate_unset_touches, move_unset_touches, resize_unset_touches};
-ghost use Rattle.tlsf_heap.specs.Unset.{unset_from};
-ghost use Rattle.tlsf_heap.specs.Kept.{Settles, SparesOthers};
+ghost use Rattle.tlsf_heap.specs.Touched.{allocate_touches, groups_of, move_unset_touches, resize_unset_touches};
+ghost use Rattle.tlsf_heap.specs.Unset.{unset_from, with_payload};
+ghost use Rattle.tlsf_heap.specs.Kept.{DoesPart, Settles, SparesOthers};
 ghost use Rattle.tlsf_heap.specs.WordsInUse.{peak_moved, peak_of};
 ghost use Rattle.tlsf_words.specs.Touched.{InGroups};
 ghost use Rattle.tlsf_heap.specs.Shown.{seen};
 
 use super::{Heap, want};
-use crate::fitting::{carve_unset, choose};
+use crate::fitting::{carve, choose};
 use crate::name::Name;
 use crate::refusal::Refusal;
 use tlsf_words::Tag;
@@ -22,7 +24,7 @@ use tlsf_words::Tag;
 // Calls that fill nothing: for a caller who fills the payload himself before he reads it.
 impl<const SLI: u32> Heap<SLI> {
     /// Gives a block that holds `len` bytes of payload, as `allocate`, and fills nothing: its bytes are those that lie there, whatever
-    /// they are. So it takes no longer for more bytes. Only the first payload word is made zero.
+    /// they are. So it takes no longer for more bytes, and touches none of them.
     ///
     /// Refused as `NoFit` where no free block lies in a class at or above the search class of the words wanted. Otherwise as `Worn`
     /// where the tick is at its last value. Takes no memory.
@@ -34,19 +36,28 @@ impl<const SLI: u32> Heap<SLI> {
     #[inline(always)]
     pub fn allocate_unset(&mut self, len: u32) -> Result<Name, Refusal>
         // Accepted or refused, and whatever the region holds.
-        ensures allocates { AllocatesUnset allocate_unset_touches SLI len (seen self.old) (seen self.new) self.new.stored result }
+        ensures allocates { AllocatesUnset allocate_touches SLI (Blocks.want len) len (seen self.old) (seen self.new) self.new.stored result }
 
         // A refusal changes nothing.
-        ensures frame { Settles SLI 14 (peak_of self.old self.new) self.old self.new result }
+        ensures frame { Settles SLI 11 (peak_of self.old self.new) self.old self.new result }
     {
-        let words = want(len);
+        self.allocate_unset_words(want(len), len)
+    }
+
+    /// An `allocate_unset` of a block of `words` words.
+    #[inline(always)]
+    pub(super) fn allocate_unset_words(&mut self, words: u32, len: u32) -> Result<Name, Refusal>
+        requires { Blocks.want len ≤ words }
+        ensures allocates { AllocatesUnset allocate_touches SLI words len (seen self.old) (seen self.new) self.new.stored result }
+        ensures frame { Settles SLI 11 (peak_of self.old self.new) self.old self.new result }
+    {
         let Some(class) = choose(&mut self.region, words) else {
             return Err(Refusal::NoFit);
         };
         if self.tick == u64::MAX {
             return Err(Refusal::Worn);
         }
-        let given = carve_unset(&mut self.region, class, words, self.tick, len);
+        let given = carve(&mut self.region, class, words, self.tick, len);
         self.usage.give(given.words);
         let serial = self.tick;
         self.tick += 1;
@@ -55,6 +66,24 @@ impl<const SLI: u32> Heap<SLI> {
             at: given.at,
             serial,
         })
+    }
+
+    /// Makes the payload of a live block zero, which is `len` bytes long: all bytes of the words that hold it. An `allocate_unset` and
+    /// this are an `allocate`, for a caller who keeps the name elsewhere before the zeros are written. Takes no memory.
+    ///
+    /// ```text
+    /// let name = heap.allocate_unset(100)?;
+    /// heap.zero_payload(name, 100);                    // as after `allocate`
+    /// ```
+    #[inline(always)]
+    pub fn zero_payload(&mut self, name: Name, len: u32)
+        requires live { IsLive self.old.heap name }
+        requires length { length (payload_of self.old.heap name) ≡ len }
+        ensures heap { self.new.heap ≡ with_payload self.old.heap name (replicate len 0) }
+        ensures frame { DoesPart SLI (Blocks.want len - 3) (groups_of (Blocks.want len - 3)) self.old self.new }
+        ensures leaves { LeavesPayloads self.old.heap.blocks name.at self.old.touched self.new.touched }
+    {
+        self.region.zero(name.at, want(len) - 3);
     }
 
     /// Makes the payload of the block of that name `len` bytes long, where the block stands, as `resize`, and fills nothing. The
@@ -152,7 +181,7 @@ impl<const SLI: u32> Heap<SLI> {
         ensures answer { result ≡ (resized_or_moved SLI self.old.heap name len).answer }
         ensures heap { IfOk result (λ new. self.new.heap ≡ unset_from (resized_or_moved SLI self.old.heap name len).heap new self.new.stored (min (length (payload_of self.old.heap name)) len) len) }
         ensures frame { Settles SLI (37 + 2 * (min (length (payload_of self.old.heap name)) len / 64)) (peak_moved self.old name.at result self.new.heap) self.old self.new result }
-        ensures touches { self.new.touches ≤ self.old.touches + 93 + 2 * (min (length (payload_of self.old.heap name)) len / 8) }
+        ensures touches { self.new.touches ≤ self.old.touches + 88 + 2 * (min (length (payload_of self.old.heap name)) len / 8) }
         ensures in_place { IsOk (resized self.old.heap name len).answer → self.new.touches ≤ self.old.touches + 27 }
         ensures others { SparesOthers name.at self.old self.new result }
     {
@@ -169,7 +198,7 @@ impl<const SLI: u32> Heap<SLI> {
         ensures answer { result ≡ (moved SLI self.old.heap name len).answer }
         ensures heap { IfOk result (λ new. self.new.heap ≡ unset_from (moved SLI self.old.heap name len).heap new self.new.stored (min (length (payload_of self.old.heap name)) len) len) }
         ensures frame { Settles SLI (35 + 2 * (min (length (payload_of self.old.heap name)) len / 64)) (peak_moved self.old name.at result self.new.heap) self.old self.new result }
-        ensures touches { self.new.touches ≤ self.old.touches + 66 + 2 * (min (length (payload_of self.old.heap name)) len / 8) }
+        ensures touches { self.new.touches ≤ self.old.touches + 61 + 2 * (min (length (payload_of self.old.heap name)) len / 8) }
         ensures others { SparesOthers name.at self.old self.new result }
     {
         if self.tick >= u64::MAX - 1 {

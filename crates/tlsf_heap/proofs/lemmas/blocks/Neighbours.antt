@@ -1,5 +1,5 @@
 -- The blocks on either side of one, and what their tags say of them.
-use Rattle.tlsf_heap.proofs.Common.{◌≡◌, ◌≢◌, ℕ, zero, suc, ◌+◌, ◌^◌, ◌<◌, ◌≤◌, inl, inr, true, false, eqb, List, [], ◌∷◌, ◌++◌, length, take, drop, refl, sym, ap, ◌∙◌, subst, arith, eq-eqb, drop_more, take_all, take_more, false≢true, cases_lt, cases_eq, eqb-true, ne_eqb, nowhere, Tag, Block, Live, Free, size_of, words_in, is_free, StandsAt, IsPlace, first_free, last_free, Site, block_at, site_at, place_of, back_behind, AreRegions, EachAt, IsTagOf, IsNextTag, IsPreviousTag, IsTagBehind}
+use Rattle.tlsf_heap.proofs.Common.{◌≡◌, ◌≢◌, ℕ, zero, suc, ◌+◌, ◌^◌, ◌<◌, ◌≤◌, inl, inr, Bool, true, false, eqb, List, [], ◌∷◌, ◌++◌, length, take, drop, refl, sym, ap, ◌∙◌, subst, arith, eq-eqb, drop_more, take_all, take_more, false≢true, cases_lt, cases_eq, eqb-true, ne_eqb, nowhere, Tag, Block, Live, Free, size_of, words_in, is_free, StandsAt, IsPlace, first_free, last_free, Site, block_at, site_at, place_of, back_behind, AreRegions, EachAt, IsTagOf, IsNextTag, IsPreviousTag, IsTagBehind, IsWhole}
 use Rattle.tlsf_heap.proofs.lemmas.blocks.Replace.{first_free-words}
 use Rattle.tlsf_heap.proofs.lemmas.blocks.LastFree.{ends_free, ends_live}
 use Rattle.tlsf_heap.proofs.lemmas.blocks.Lawful.{words_in-append}
@@ -28,12 +28,24 @@ live_previous none live = record {
   back = λ e. absurd (false≢true (sym live ∙ e));
 }
 
--- a tag of no words stands for the free block behind a block where there is none
-pub none_is : {words : ℕ} {s : Site} {own tag : Tag} → IsTagOf words s own → first_free s.after ≡ 0 → tag.size ≡ 0 → tag.last ≡ own.last → IsTagBehind words s tag
-none_is {words = words} {s = s} is none size last = record {
-  size = size ∙ sym none;
-  last = last ∙ is.last ∙ ap (λ (n : ℕ). eqb n words) (let sum : place_of s + size_of s.block ≡ place_of s + size_of s.block + first_free s.after = omega (arith, none) in sum);
-}
+-- the tag of a live block and the free block behind it as one, and that of a block with none behind it
+pub whole_next : {words after : ℕ} {s : Site} {own next : Tag} (tag : Tag) → IsTagOf words s own → IsNextTag words s next → next.free ≡ true → after ≡ next.size → tag.size ≡ own.size + next.size → tag.free ≡ true → tag.last ≡ next.last → tag.back ≡ own.back
+    → IsWhole words s tag after
+whole_next tag is behind some read size free last back = record { after = read ∙ behind.size some; size = omega (arith, size, is.size, read); free = free; last = last ∙ behind.last some; back = back ∙ is.back }
+
+pub whole_alone : {words : ℕ} {s : Site} {own next : Tag} (tag : Tag) → IsTagOf words s own → IsNextTag words s next → next.free ≡ false → tag.size ≡ own.size → tag.free ≡ true → tag.last ≡ own.last → tag.back ≡ own.back → IsWhole words s tag 0
+whole_alone {words = words} {s = s} tag is behind live size free last back =
+    let none = behind.live live in
+    let sum : place_of s + size_of s.block ≡ place_of s + size_of s.block + first_free s.after = omega (arith, none) in
+    record { after = sym none; size = omega (arith, size, is.size); free = free; last = last ∙ is.last ∙ ap (λ (n : ℕ). eqb n words) sum; back = back ∙ is.back }
+
+-- that of the free block behind is free where it has words
+pub behind_free : {words : ℕ} {s : Site} {tag : Tag} → IsTagBehind words s tag → 0 < tag.size → tag.free ≡ true
+behind_free {tag = tag} is some = by_free tag.free refl
+  where
+    by_free : (free : Bool) → tag.free ≡ free → tag.free ≡ true
+    by_free true e = e
+    by_free false e = let none = is.next.live e in absurd (omega (arith, is.size, some, none))
 
 -- the tag of the block behind a block, by what it is
 says_next : (before : List Block) (block b : Block) (blocks : List Block) (words : ℕ) (tag : Tag) → 0 < size_of b → tag.size ≡ size_of b → tag.free ≡ is_free b

@@ -1,5 +1,5 @@
 -- Edits of the list of blocks.
-use Rattle.tlsf_heap.proofs.Common.{◌≡◌, ℕ, ◌+◌, ◌-◌, inl, inr, Bool, true, false, cond, nat_le, replicate, ◌<◌, ◌≤◌, List, [], ◌∷◌, take, drop, ap, arith, take-append-drop, carved, first_free, rest_of, cases_lt, nat_tests, Block, Live, Free, words_in}
+use Rattle.tlsf_heap.proofs.Common.{◌≡◌, ℕ, ◌+◌, ◌-◌, Bool, true, false, cond, nat_le, replicate, ◌<◌, ◌≤◌, List, [], ◌∷◌, take, drop, ap, arith, take-append-drop, carved, first_free, nat_tests, Block, Live, Free, words_in}
 use Rattle.tlsf_heap.proofs.lemmas.blocks.Lawful.{words_in-append}
 
 pub words_in-take : (bs : List Block) (j : ℕ) → words_in (take j bs) ≤ words_in bs
@@ -20,20 +20,3 @@ pub first_free-words : (bs : List Block) → first_free bs ≤ words_in bs
 first_free-words [] = omega arith
 first_free-words (Live m s xs ∷ bs) = omega arith
 first_free-words (Free m s ∷ bs) = omega arith
-
--- a rest is split off exactly where it has four words
-pub rest_some : (size n : ℕ) → 0 < rest_of size n → (n + 4 ≤ size) × (rest_of size n ≡ size - n)
-rest_some size n some = elim (cases_lt size (n + 4)) [
-  | inl small ↦
-      let t : nat_le (n + 4) size ≡ false = grind (arith, nat_tests) in
-      let none : rest_of size n ≡ 0 = ap (λ (b : Bool). cond b (size - n) 0) t in absurd (omega (arith, none))
-  | inr large ↦ (large, let t : nat_le (n + 4) size ≡ true = grind (arith, nat_tests) in ap (λ (b : Bool). cond b (size - n) 0) t)
-]
-
-pub rest_none : (size n : ℕ) → rest_of size n ≡ 0 → size < n + 4
-rest_none size n none = elim (cases_lt size (n + 4)) [
-  | inl small ↦ small
-  | inr large ↦
-      let t : nat_le (n + 4) size ≡ true = grind (arith, nat_tests) in
-      let some : rest_of size n ≡ size - n = ap (λ (b : Bool). cond b (size - n) 0) t in absurd (omega (arith, some, large))
-]

@@ -18,13 +18,13 @@ pub record IsUsed (old : Shown) (u : Usage) (bs : List Block) : Type 0 where
 
 -- two calls in turn
 pub keeps_both : {sli : ℕ} {first between last : Shown} → Keeps sli first between → Keeps sli between last → Keeps sli first last
-keeps_both a b = record { was_lawful = a.was_lawful; lawful = b.lawful; shows = b.shows; lists = b.lists; stays = b.stays ∙ a.stays; touches_rise = omega (arith, a.touches_rise, b.touches_rise); was_reached = a.was_reached; reached = b.reached }
+keeps_both a b = record { level = a.level; was_lawful = a.was_lawful; lawful = b.lawful; shows = b.shows; lists = b.lists; stays = b.stays ∙ a.stays; touches_rise = omega (arith, a.touches_rise, b.touches_rise); was_reached = a.was_reached; reached = b.reached }
 
 module _ (sli : ℕ) (h : Inside sli) {old : Shown} (same : shown_of sli h ≡ old) (was : IsStored sli h) where
   -- the heap is stored in another way
   pub keeps_stored : (k : Inside sli) → IsStored sli k → h.region.touches ≤ k.region.touches → k.region.extents ≡ h.region.extents → Keeps sli old (shown_of sli k)
   keeps_stored k is rise stays =
-      subst (λ (s : Shown). Keeps sli s (shown_of sli k)) same (record { was_lawful = was.lawful; lawful = is.lawful; shows = is.shows; lists = stored_lists sli k is; stays = stays; touches_rise = rise; was_reached = omega (arith, was.in_use, was.most_in_use); reached = omega (arith, is.in_use, is.most_in_use) })
+      subst (λ (s : Shown). Keeps sli s (shown_of sli k)) same (record { level = was.level; was_lawful = was.lawful; lawful = is.lawful; shows = is.shows; lists = stored_lists sli k is; stays = stays; touches_rise = rise; was_reached = omega (arith, was.in_use, was.most_in_use); reached = omega (arith, is.in_use, is.most_in_use) })
 
   -- the region was only read
   pub stored_read : (region : RegionState) {n : ℕ} → OnlyReads h.region region n → IsStored sli (record h { region = region })
@@ -42,6 +42,7 @@ module _ (sli : ℕ) (h : Inside sli) {old : Shown} (same : shown_of sli h ≡ o
 
   pub keeps_read : (region : RegionState) {n : ℕ} → OnlyReads h.region region n → Keeps sli old (record { heap = with_region (state_of sli h) h.tick region; stored = region.stored; marked = region.marked; extents = region.extents; most_in_use = h.usage.most; touches = region.touches; touched = region.touched })
   keeps_read region reads = subst (λ (s : Shown). Keeps sli s (record { heap = with_region (state_of sli h) h.tick region; stored = region.stored; marked = region.marked; extents = region.extents; most_in_use = h.usage.most; touches = region.touches; touched = region.touched })) same (record {
+    level = was.level;
     was_lawful = was.lawful;
     lawful = rw (reads.words, reads.blocks) was.lawful;
     shows = rw (reads.stored, reads.blocks) was.shows;
@@ -54,7 +55,7 @@ module _ (sli : ℕ) (h : Inside sli) {old : Shown} (same : shown_of sli h ≡ o
 
   -- nothing was done
   pub keeps_same : Keeps sli old old
-  keeps_same = subst (λ (s : Shown). Keeps sli s s) same (record { was_lawful = was.lawful; lawful = was.lawful; shows = was.shows; lists = stored_lists sli h was; stays = refl; touches_rise = omega arith; was_reached = omega (arith, was.in_use, was.most_in_use); reached = omega (arith, was.in_use, was.most_in_use) })
+  keeps_same = subst (λ (s : Shown). Keeps sli s s) same (record { level = was.level; was_lawful = was.lawful; lawful = was.lawful; shows = was.shows; lists = stored_lists sli h was; stays = refl; touches_rise = omega arith; was_reached = omega (arith, was.in_use, was.most_in_use); reached = omega (arith, was.in_use, was.most_in_use) })
 
   -- as many words are in use as before
   pub same_use : (bs : List Block) → words_used bs ≡ words_used h.region.blocks → IsUsed old h.usage bs

@@ -39,21 +39,6 @@ looked_releases few most old mid new name answer lawful live look r =
       forged = looked_forged old mid new name lawful look.heap live r.forged;
     }
 
-pub looked_resizes : (few most n len : ℕ) (old mid new : Seen) (name : Name) (answer : Result (Unit {0}) Refusal) → IsLawful old.heap → (mid.touches ≡ old.touches) × (mid.touched ≡ old.touched) ⊎ IsNamed old.heap name → Looked few old mid → Resizes most n len mid new name answer
-    → Resizes (few + most) n len old new name answer
-looked_resizes few most n len old mid new name answer lawful live look r =
-    let here : Resizes most n len (record mid { heap = old.heap }) new name answer = subst (λ (h : HeapState). Resizes most n len (record mid { heap = h }) new name answer) look.heap r in
-    record {
-      answer_is = here.answer_is;
-      heap = here.heap;
-      touches = omega (arith, look.touches, here.touches);
-      grown = omega (arith, look.touches, here.grown);
-      rise = omega (arith, look.rise, here.rise);
-      leaves = λ k other. here.leaves k other ∙ look.leaves k (any_word old.heap.blocks name.at k other);
-      refused = refused_then answer old mid new look.leaves here.refused;
-      forged = looked_forged old mid new name lawful look.heap live r.forged;
-    }
-
 -- ---- of other words
 
 -- what is told of a call for m words is true for n, where the sequential heap does the same

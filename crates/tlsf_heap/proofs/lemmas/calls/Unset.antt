@@ -103,9 +103,9 @@ unset_is h name m from len lawful live within many =
     ∙ ap (λ (l : List ℕ). rebyted name.serial l h) (append-nil (take from (payload_of h name) ++ bytes))
 
 -- the payload that an allocate gives has this many bytes
-pub given_length : (sli : ℕ) (h : HeapState) (len : ℕ) (name : Name) → IsLawful h → (allocated sli h len).answer ≡ Ok name → length (payload_of (allocated sli h len).heap name) ≡ len
-given_length sli h len name lawful answer =
-    let found = given_block (λ b. length (bytes_of b) ≡ len) sli h (want len) len name lawful answer (length-replicate {A = ℕ} len 0) (λ b fit. length-replicate {A = ℕ} len 0) in
+pub given_length : (sli : ℕ) (h : HeapState) (n len : ℕ) (name : Name) → IsLawful h → (allocated_words sli h n len).answer ≡ Ok name → length (payload_of (allocated_words sli h n len).heap name) ≡ len
+given_length sli h n len name lawful answer =
+    let found = given_block (λ b. length (bytes_of b) ≡ len) sli h n len name lawful answer (length-replicate {A = ℕ} len 0) (λ b fit. length-replicate {A = ℕ} len 0) in
     ap (λ (o : Option Site). length (bytes_at o)) found.1 ∙ found.2
 
 -- the first of those that lie there
@@ -230,7 +230,7 @@ module _ (sli : ℕ) (h : HeapState) (name new : Name) (len : ℕ) (level : IsLe
 
   -- the heap after a request that fills nothing
   first_is : (before : Image) (first : HeapState) → first ≡ unset_from given new before 0 len → first ≡ rebyted new.serial (lying before new.at len) given
-  first_is before first is = is ∙ unset_is given new before 0 len given_lawful new_given (omega arith) (sym (given_length sli h len new lawful answer))
+  first_is before first is = is ∙ unset_is given new before 0 len given_lawful new_given (omega arith) (sym (given_length sli h (want len) len new lawful answer))
 
   pub first_lives : (before : Image) (first : HeapState) → first ≡ unset_from given new before 0 len → IsLive first name × IsLive first new × (first.tick ≡ h.tick + 1)
   first_lives before first is =
@@ -251,7 +251,7 @@ module _ (sli : ℕ) (h : HeapState) (name new : Name) (len : ℕ) (level : IsLe
       let held = payload_of h name in
       let piece = take some held in
       let long : length piece ≡ some = length-take-le some held (omega arith) in
-      let given_many = given_length sli h len new lawful answer in
+      let given_many = given_length sli h (want len) len new lawful answer in
       let lay = lying before new.at len in
       let first_as = first_is before first first_unset in
       let lay_many = length-bytes_in before.words (payload_byte new.at 0) len in

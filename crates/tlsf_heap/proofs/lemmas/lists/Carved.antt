@@ -1,13 +1,11 @@
 -- A free block that becomes a live one, and the lists of the free blocks.
-use Rattle.tlsf_heap.proofs.Common.{◌≡◌, ◌≢◌, ℕ, suc, ◌+◌, ◌-◌, ◌*◌, ◌<◌, ◌≤◌, true, List, [], ◌∷◌, ◌++◌, length, take, drop, replicate, Option, Some, None, sym, ap, ◌∙◌, subst, inl, inr, arith, append_assoc, cases_lt, slice_get, Contains, class_of, Block, Live, Free, size_of, words_in, is_free, bytes_of, stamp_of, StandsAt, IsHead, IsRegion, RegionState, AreRegions, AreUnlisted, SameLists, BeginsZero, EachAt, HasAt, IsTagOf, Rewrites, PutInFront, TakenOut, list_in, withheld_alone, block_at, site_at, carved, cut, lying, Image, Shows, bytes_in, payload_byte, FreePlace, free_places, AreFreeLists, IsUnlisted, without_place, Tag}
-use Rattle.tlsf_heap.proofs.lemmas.words.ClearPayload.{zeroed_block}
+use Rattle.tlsf_heap.proofs.Common.{◌≡◌, ◌≢◌, ℕ, suc, ◌+◌, ◌-◌, ◌*◌, ◌<◌, ◌≤◌, true, List, [], ◌∷◌, ◌++◌, length, take, drop, Option, Some, None, sym, ap, ◌∙◌, subst, arith, append_assoc, slice_get, Contains, class_of, Block, Live, Free, size_of, words_in, is_free, bytes_of, stamp_of, StandsAt, IsHead, IsRegion, RegionState, AreRegions, AreUnlisted, SameLists, EachAt, HasAt, IsTagOf, Rewrites, PutInFront, TakenOut, list_in, withheld_alone, block_at, site_at, cut, lying, Image, Shows, bytes_in, payload_byte, FreePlace, free_places, AreFreeLists, IsUnlisted, without_place, Tag}
 use Rattle.tlsf_heap.proofs.lemmas.lists.FreeLists.{AreListed, IsFresh, fresh_both, contains_own, not_listed, same_lists, unlisted_same, taken, given}
-use Rattle.tlsf_heap.proofs.lemmas.calls.Write.{places_bytes}
 use Rattle.tlsf_heap.proofs.lemmas.words.Recut.{cut_small, cut_large}
-use Rattle.tlsf_heap.proofs.lemmas.words.Bytes.{length-bytes_in, held_bytes}
+use Rattle.tlsf_heap.proofs.lemmas.words.Bytes.{held_bytes}
 use Rattle.tlsf_heap.proofs.lemmas.words.Image.{shown_here}
 use Rattle.tlsf_heap.specs.CarvedUnset.{CarvedUnset}
-use Rattle.tlsf_heap.proofs.lemmas.blocks.Around.{Around, around, around_next, take_around, drop_around, block_around, stands_around, words_around, regions_front, regions_back, region_around, one_index, free_as, places_behind, fresh_front, fresh_back, ArePast, past_around, newest, place}
+use Rattle.tlsf_heap.proofs.lemmas.blocks.Around.{Around, around, around_next, block_around, stands_around, words_around, regions_front, regions_back, region_around, one_index, free_as, places_behind, fresh_front, fresh_back, ArePast, past_around, newest, place}
 
 -- a free block begins at a place, among blocks of sizes that a region may have
 pub record IsFreeHere (sli : ℕ) (bs : List Block) (at i : ℕ) : Type 0 where
@@ -22,68 +20,6 @@ head_stands sli {bs = bs} {i = i} head is = subst (λ (k : ℕ). StandsAt bs k i
     place : Option ℕ → ℕ
     place None = 0
     place (Some at) = at
-
--- the region where the block that is given has its header and its rest is listed: the payload begins with a zero word
-pub record IsGiven (sli : ℕ) (bs : List Block) (at i words tick len size : ℕ) (r : RegionState) : Type 0 where
-  pub bytes : List ℕ
-  pub more : List Block
-  pub many : length bytes ≡ len
-  pub first : BeginsZero bytes
-  pub around : Around r.blocks at i (take i bs) (Live size tick bytes) more
-  pub left : take i bs ++ carved (size_of (block_at bs i)) words tick len ++ drop (suc i) bs ≡ take i bs ++ Live size tick (replicate len 0) ∷ more
-  pub listed : AreFreeLists sli r.blocks (list_in r.lists)
-  pub room : words ≤ size
-
--- once its payload is zero
-module _ (sli : ℕ) {bs : List Block} {at i words tick len size : ℕ} {r : RegionState} (given : IsGiven sli bs at i words tick len size r) {new : List Block}
-    (is : new ≡ take i r.blocks ++ (zeroed_block (block_at r.blocks i) ∷ []) ++ drop (suc i) r.blocks) where
-  zeroed_is : new ≡ take i bs ++ Live size tick (replicate len 0) ∷ given.more
-  zeroed_is =
-      let a = given.around in
-      let rest : drop (suc i) r.blocks ≡ given.more = drop_around a in
-      is ∙ ap (λ (l : List Block). l ++ (zeroed_block (block_at r.blocks i) ∷ []) ++ drop (suc i) r.blocks) (take_around a)
-      ∙ ap (λ (b : Block). take i bs ++ (zeroed_block b ∷ []) ++ drop (suc i) r.blocks) (block_around a)
-      ∙ ap (λ (l : List Block). take i bs ++ (zeroed_block (Live size tick given.bytes) ∷ []) ++ l) rest
-      ∙ append_assoc (take i bs) (zeroed_block (Live size tick given.bytes) ∷ []) given.more
-      ∙ ap (λ (n : ℕ). take i bs ++ Live size tick (replicate n 0) ∷ given.more) given.many
-
-  pub zeroed_around : Around new at i (take i bs) (Live size tick (replicate len 0)) given.more
-  zeroed_around = record { is = zeroed_is; before = given.around.before; place = given.around.place }
-
-  pub zeroed_carved : new ≡ take i bs ++ carved (size_of (block_at bs i)) words tick len ++ drop (suc i) bs
-  zeroed_carved = zeroed_is ∙ sym given.left
-
-  pub zeroed_listed : (lists : ℕ → List ℕ) → SameLists lists (list_in r.lists) → AreFreeLists sli new lists
-  zeroed_listed lists same =
-      let old = Live size tick given.bytes in
-      let places : free_places sli 0 new ≡ free_places sli 0 r.blocks =
-      ap (free_places sli 0) zeroed_is ∙ places_bytes sli (take i bs) given.more old (replicate len 0) ∙ ap (free_places sli 0) (sym given.around.is) in
-      subst (λ (l : List FreePlace). AreListed l lists) (sym places) (same_lists (free_places sli 0 r.blocks) (list_in r.lists) lists same given.listed)
-
--- where nobody filled it, it has the bytes that lie there
-pub given_unset : (sli : ℕ) {old new : RegionState} {at i words tick len most : ℕ} → StandsAt old.blocks at i → words ≤ size_of (block_at old.blocks i) → CarvedUnset sli old new (site_at old.blocks i) at words tick len most
-    → (size : ℕ) × IsGiven sli old.blocks at i words tick len size new
-given_unset sli {old = old} {new = new} {at = at} {i = i} {words = words} {tick = tick} {len = len} stands fits unset =
-    let bs = old.blocks in
-    let size = size_of (block_at bs i) in
-    let a = around bs at i stands in
-    let with_rest : (k : ℕ) (rest : List Block) → ((xs : List ℕ) → cut size words tick tick xs ≡ Live k tick xs ∷ rest) → words ≤ k → IsGiven sli bs at i words tick len k new = λ k rest is room.
-    let parts : (xs : List ℕ) → take i bs ++ cut size words tick tick xs ++ drop (suc i) bs ≡ take i bs ++ Live k tick xs ∷ (rest ++ drop (suc i) bs) = λ xs.
-    ap (λ (l : List Block). take i bs ++ l ++ drop (suc i) bs) (is xs) ∙ append_assoc (take i bs) (Live k tick xs ∷ rest) (drop (suc i) bs) in
-    record {
-      bytes = lying new.stored at len;
-      more = rest ++ drop (suc i) bs;
-      many = length-bytes_in new.stored.words (payload_byte at 0) len;
-      first = unset.first;
-      around = record { is = unset.blocks ∙ parts (lying new.stored at len); before = a.before; place = a.place };
-      left = parts (replicate len 0);
-      listed = unset.listed;
-      room = room;
-    } in
-    elim (cases_lt size (words + 4)) [
-      | inl small ↦ (size, with_rest size [] (λ xs. cut_small size words tick tick xs small) fits)
-      | inr large ↦ (words, with_rest words (Free (size - words) tick ∷ []) (λ xs. cut_large size words tick tick xs large) (omega arith))
-    ]
 
 -- the bytes of a live block lie behind its header
 lies_there : {m : Image} {bs front back : List Block} {at i size tick len : ℕ} {bytes : List ℕ} → Shows m bs → Around bs at i front (Live size tick bytes) back → length bytes ≡ len → lying m at len ≡ bytes
@@ -215,21 +151,20 @@ module _ (sli : ℕ) {old : RegionState} {at i tick : ℕ} {own : Tag} (t : IsOu
 
   module _ (words len : ℕ) where
     -- it was given whole
-    pub by_grant : {v : RegionState} → BeginsZero (lying v.stored at len) → own.size < words + 4 → EachAt old.blocks at (λ s. Rewrites old v (s.before ++ (Live (size_of s.block) tick (lying v.stored at len) ∷ []) ++ s.after) 4)
-        → CarvedUnset sli old v (site_at old.blocks i) at words tick len 16
-    by_grant {v = v} first small each =
+    pub by_grant : {v : RegionState} → own.size < words + 4 → EachAt old.blocks at (λ s. Rewrites old v (s.before ++ (Live (size_of s.block) tick (lying v.stored at len) ∷ []) ++ s.after) 3)
+        → CarvedUnset sli old v (site_at old.blocks i) at words tick len 15
+    by_grant {v = v} small each =
         let w = each i t.here.stands in
         let bytes = lying v.stored at len in
         record {
           blocks = w.blocks ∙ ap (λ (l : List Block). take i old.blocks ++ l ++ drop (suc i) old.blocks) (sym (cut_small (size_of (block_at old.blocks i)) words tick tick bytes (omega (arith, t.is_own.size, small))));
-          first = first;
           listed = whole_listed sli t.here tick t.past (list_in old.lists) t.withheld bytes v w.blocks w.lists;
           edits = record { words = w.edits.words; shows = w.edits.shows; linked = w.edits.linked; bits = w.edits.bits; stays = w.edits.stays; touches = omega (arith, w.edits.touches); rise = w.edits.rise };
         }
 
     -- or split
-    module _ (bytes : List ℕ) (large : words + 4 ≤ own.size) {v : RegionState} (each : EachAt old.blocks at (λ s. Rewrites old v (s.before ++ (Live words tick bytes ∷ Free (size_of s.block - words) tick ∷ []) ++ s.after) 9)) where
-      written : Rewrites old v (take i old.blocks ++ (Live words tick bytes ∷ Free (size_of (block_at old.blocks i) - words) tick ∷ []) ++ drop (suc i) old.blocks) 9
+    module _ (bytes : List ℕ) (large : words + 4 ≤ own.size) {v : RegionState} (each : EachAt old.blocks at (λ s. Rewrites old v (s.before ++ (Live words tick bytes ∷ Free (size_of s.block - words) tick ∷ []) ++ s.after) 8)) where
+      written : Rewrites old v (take i old.blocks ++ (Live words tick bytes ∷ Free (size_of (block_at old.blocks i) - words) tick ∷ []) ++ drop (suc i) old.blocks) 8
       written = each i t.here.stands
 
       wide : words + 4 ≤ size_of (block_at old.blocks i)
@@ -242,8 +177,8 @@ module _ (sli : ℕ) {old : RegionState} {at i tick : ℕ} {own : Tag} (t : IsOu
       split_rest_unlisted = rest_unlisted sli t.here tick t.past (list_in old.lists) t.withheld words bytes wide v.blocks written.blocks (list_in v.lists) written.lists
 
       -- and the rest is listed
-      pub by_split : {u : RegionState} {came : ℕ} → length bytes ≡ len → BeginsZero bytes → came ≡ class_of sli (own.size - words) → PutInFront v u came (at + words) 7 → CarvedUnset sli old u (site_at old.blocks i) at words tick len 16
-      by_split {u = u} {came = came} many first is_class push =
+      pub by_split : {u : RegionState} {came : ℕ} → length bytes ≡ len → came ≡ class_of sli (own.size - words) → PutInFront v u came (at + words) 7 → CarvedUnset sli old u (site_at old.blocks i) at words tick len 15
+      by_split {u = u} {came = came} many is_class push =
           let w = written in
           let size = size_of (block_at old.blocks i) in
           let a = around old.blocks at i t.here.stands in
@@ -257,7 +192,6 @@ module _ (sli : ℕ) {old : RegionState} {at i tick : ℕ} {own : Tag} (t : IsOu
             blocks = push.blocks ∙ w.blocks
                 ∙ ap (λ (l : List Block). take i old.blocks ++ l ++ drop (suc i) old.blocks) (sym (cut_large size words tick tick bytes wide))
                 ∙ ap (λ (l : List ℕ). take i old.blocks ++ cut size words tick tick l ++ drop (suc i) old.blocks) same;
-            first = subst BeginsZero same first;
             listed = split_listed sli t.here tick t.past (list_in old.lists) t.withheld words bytes wide v.blocks w.blocks (list_in v.lists) w.lists u push.blocks came (is_class ∙ ap (λ (k : ℕ). class_of sli (k - words)) t.is_own.size) push.list push.others;
             edits = record { words = push.edits.words ∙ w.edits.words; shows = push.edits.shows; linked = push.edits.linked; bits = push.edits.bits; stays = push.edits.stays ∙ w.edits.stays; touches = omega (arith, push.edits.touches, w.edits.touches); rise = omega (arith, push.edits.rise, w.edits.rise) };
           }

@@ -1,5 +1,5 @@
 -- A block with other payload bytes or of another size, where it stands among the others, and the lists of the free blocks.
-use Rattle.tlsf_heap.proofs.Common.{◌≡◌, ℕ, suc, ◌+◌, ◌-◌, ◌<◌, ◌≤◌, inl, inr, Bool, true, false, cond, nat_le, nat_lt, eqb, List, [], ◌∷◌, ◌++◌, length, take, drop, refl, sym, ap, ◌∙◌, subst, arith, append_assoc, length-append, ◌&&◌, false≢true, cases_lt, nat_tests, drop_at, Tag, Block, Live, Free, size_of, words_in, is_free, bytes_of, stamps, words_for, StandsAt, AllByRecursion, HasRoom, first_free, past_free, with_bytes, fitted, recut, refitted, FreePlace, free_places, AreFreeLists, Site, block_at, site_at, place_of, mark_of, IsTagOf, IsTagBehind, SameLists}
+use Rattle.tlsf_heap.proofs.Common.{◌≡◌, ℕ, suc, ◌+◌, ◌-◌, ◌<◌, ◌≤◌, inl, inr, Bool, true, false, cond, nat_le, nat_lt, eqb, List, [], ◌∷◌, ◌++◌, length, take, drop, refl, sym, ap, ◌∙◌, subst, arith, append_assoc, length-append, ◌&&◌, false≢true, cases_lt, nat_tests, drop_at, Tag, Block, Live, Free, size_of, words_in, is_free, bytes_of, stamps, words_for, StandsAt, AllByRecursion, HasRoom, first_free, past_free, with_bytes, fitted, recut, refitted, FreePlace, free_places, AreFreeLists, Site, block_at, site_at, place_of, mark_of, IsTagOf, SameLists}
 use Rattle.tlsf_heap.proofs.lemmas.blocks.Lawful.{stamps-append, all_right}
 use Rattle.tlsf_heap.proofs.lemmas.lists.FreeLists.{AreListed, same_lists}
 use Rattle.tlsf_heap.proofs.lemmas.words.Bytes.{size_of-with_bytes, is_free-with_bytes}
@@ -24,12 +24,6 @@ tag_rebytes {words = words} {s = s} new is = record {
   free = is.free ∙ sym (is_free-with_bytes s.block new);
   last = is.last ∙ ap (λ (n : ℕ). eqb (place_of s + n) words) (sym (size_of-with_bytes s.block new));
   back = is.back;
-}
-
-pub behind_rebytes : {words : ℕ} {s : Site} {next : Tag} (new : List ℕ) → IsTagBehind words s next → IsTagBehind words (record { before = s.before; block = with_bytes s.block new; after = s.after }) next
-behind_rebytes {words = words} {s = s} new is = record {
-  size = is.size;
-  last = is.last ∙ ap (λ (n : ℕ). eqb (place_of s + n + first_free s.after) words) (sym (size_of-with_bytes s.block new));
 }
 
 module _ (sli : ℕ) {bs : List Block} {at i : ℕ} (stands : StandsAt bs at i) (new : List ℕ) {now : List Block} (is : now ≡ take i bs ++ (with_bytes (block_at bs i) new ∷ []) ++ drop (suc i) bs) where

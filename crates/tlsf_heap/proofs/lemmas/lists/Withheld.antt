@@ -1,5 +1,6 @@
 -- The lists of the free blocks when a live block becomes one with its free neighbours.
-use Rattle.tlsf_heap.proofs.Common.{◌≡◌, ◌≢◌, ℕ, zero, suc, ◌+◌, ◌-◌, ◌<◌, ◌≤◌, true, false, List, [], ◌∷◌, ◌++◌, length, take, drop, refl, sym, ap, ◌∙◌, subst, arith, append_assoc, Contains, false≢true, class_of, Block, Live, Free, size_of, words_in, is_free, StandsAt, IsRegion, RegionState, AreRegions, AwaitsTick, AreTagsAround, AreUnlisted, EachAt, SameLists, TakenOut, IsWithout, IsTagOf, IsNextTag, list_in, withheld, block_at, site_at, without_place, Tag, coalesced, first_free, past_free, last_free, before_free, FreePlace, free_places, AreFreeLists}
+use Rattle.tlsf_heap.proofs.Common.{◌≡◌, ◌≢◌, ℕ, zero, suc, ◌+◌, ◌-◌, ◌<◌, ◌≤◌, ◌^◌, true, false, List, [], ◌∷◌, ◌++◌, length, take, drop, refl, sym, ap, ◌∙◌, subst, arith, append_assoc, Contains, false≢true, class_of, Block, Live, Free, size_of, words_in, is_free, StandsAt, IsRegion, RegionState, AreRegions, AwaitsTick, AreTagsAround, AreUnlisted, EachAt, SameLists, TakenOut, IsWithout, IsTagOf, IsNextTag, list_in, withheld, block_at, site_at, without_place, Tag, coalesced, first_free, past_free, last_free, before_free, FreePlace, free_places, AreFreeLists, most_words}
+use Rattle.tlsf_class.proofs.TwoLevels.{most_words_any}
 use Rattle.tlsf_heap.proofs.lemmas.blocks.Replace.{first_free-words}
 use Rattle.tlsf_heap.proofs.lemmas.lists.FreeLists.{AreListed, IsFresh, fresh_both, contains_own, not_listed, same_lists, taken, given}
 use Rattle.tlsf_heap.proofs.lemmas.blocks.Around.{Around, around, around_first, around_last, one_index, block_around, stands_around, words_around, region_around, regions_front, regions_back, next_is, next_none, last_is, last_none, last_words, past_regions, before_regions, place, places_behind, fresh_front, fresh_back, ArePast, past_around, newest, past_past, before_past}
@@ -11,17 +12,6 @@ pub record Forgets (sli size at : ℕ) (old new : ℕ → List ℕ) : Type 0 whe
   pub out : 0 < size → new (class_of sli size) ≡ without_place at (old (class_of sli size))
   pub others : (other : ℕ) → other ≢ class_of sli size → new other ≡ old other
   pub none : size ≡ 0 → SameLists new old
-
--- what was taken out, by the size of the block there and its place
-pub forgets : (sli : ℕ) {size read to at : ℕ} {old new : List (List ℕ)} → read ≡ size → (0 < size → to ≡ at) → (0 < read → list_in new (class_of sli read) ≡ without_place to (list_in old (class_of sli read)))
-    → ((other : ℕ) → other ≢ class_of sli read → list_in new other ≡ list_in old other) → (read ≡ 0 → new ≡ old) → Forgets sli size at (list_in old) (list_in new)
-forgets sli {size = size} {read = read} {at = at} {old = old} {new = new} is_size same out others none =
-    subst (λ (n : ℕ). Forgets sli n at (list_in old) (list_in new)) is_size
-    (record {
-      out = λ h. out h ∙ ap (λ (k : ℕ). without_place k (list_in old (class_of sli read))) (same (omega (arith, h, is_size)));
-      others = others;
-      none = λ e class. ap (λ (l : List (List ℕ)). list_in l class) (none e);
-    })
 
 -- a free block that was taken out, and where there is none to take
 pub taken_out : (sli : ℕ) {size to class at : ℕ} {old new : ℕ → List ℕ} → 0 < size → class ≡ class_of sli size → to ≡ at → new class ≡ without_place to (old class) → ((other : ℕ) → other ≢ class → new other ≡ old other)
@@ -277,6 +267,33 @@ tagged_next sli live own next none region =
       is_previous = record { live = λ _. none i stands; some = λ e. absurd (false≢true e); size = λ e. absurd (false≢true e); last = λ e. absurd (false≢true e); back = λ e. absurd (false≢true e) };
     })
     region
+
+-- a live block and the free one behind it, whose tags were read
+pub record HasBehind (sli words at tick : ℕ) (bs : List Block) (lists : ℕ → List ℕ) (own next : Tag) : Type 0 where
+  pub i : ℕ
+  pub is_own : IsTagOf words (site_at bs i) own
+  pub between : IsBetween sli bs at i (last_free (take i bs)) (size_of (block_at bs i)) (first_free (drop (suc i) bs)) tick lists
+  pub some : 0 < first_free (drop (suc i) bs)
+  pub size : next.size ≡ first_free (drop (suc i) bs)
+  pub within : at + (own.size + next.size) ≤ most_words sli
+  pub small : at + (own.size + next.size) ≤ 2 ^ 24
+
+pub has_behind : (sli : ℕ) {r : RegionState} {at tick : ℕ} {own next : Tag} → (live : (i : ℕ) × StandsAt r.blocks at i × (is_free (block_at r.blocks i) ≡ false))
+    → EachAt r.blocks at (λ s. IsTagOf r.words s own) → EachAt r.blocks at (λ s. IsNextTag r.words s next) → next.free ≡ true → AwaitsTick sli tick r → HasBehind sli r.words at tick r.blocks (list_in r.lists) own next
+has_behind sli live own next free region =
+    let is = own live.0 live.1 in
+    let behind = next live.0 live.1 in
+    let between = is_between sli live region in
+    let size = behind.size free in
+    record {
+      i = live.0;
+      is_own = is;
+      between = between;
+      some = behind.some free;
+      size = size;
+      within = omega (arith, is.size, size, end_within sli between, region.order.small);
+      small = omega (arith, is.size, size, end_within sli between, region.order.small, most_words_any sli);
+    }
 
 module _ (sli : ℕ) {words at tick : ℕ} {bs : List Block} {lists : ℕ → List ℕ} {own next previous : Tag} (t : Tagged sli words at tick bs lists own next previous) where
   -- the block before it is free, and its size was read

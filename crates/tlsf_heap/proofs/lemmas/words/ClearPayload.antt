@@ -1,49 +1,41 @@
--- A payload whose words are made zero behind its first one, which is: the words show the block with zeros.
-use Rattle.tlsf_heap.proofs.Common.{◌≡◌, ℕ, ◌+◌, ◌*◌, ◌/◌, ◌<◌, ◌≤◌, Bool, List, [], ◌∷◌, ◌++◌, length, get_or, take, drop, replicate, inl, inr, refl, sym, ap, ◌∙◌, arith, ext_get_or, false≢true, cases_lt, length-replicate, get_or-replicate, bytes_in, tag_word, size_in, last_in, back_in, ListHeads, Block, bytes_of, StandsAt, with_bytes, block_at, Image, Shows, RegionState, AwaitsZeros}
+-- A payload whose words are made zero: the words show the block with zeros.
+use Rattle.tlsf_heap.proofs.Common.{◌≡◌, ℕ, ◌+◌, ◌*◌, ◌/◌, ◌<◌, ◌≤◌, Bool, List, [], ◌∷◌, ◌++◌, length, get_or, take, drop, replicate, inl, inr, refl, sym, ap, ◌∙◌, arith, ext_get_or, false≢true, length-replicate, get_or-replicate, bytes_in, tag_word, size_in, last_in, back_in, ListHeads, Block, bytes_of, StandsAt, with_bytes, block_at, Image, Shows, RegionState, AwaitsZeros}
 use Rattle.tlsf_words.proofs.FieldLaws.{tag_word-fields}
 use Rattle.tlsf_heap.proofs.lemmas.words.Edit.{Leaves, leaves, one_changed}
 use Rattle.tlsf_heap.proofs.lemmas.words.Links.{HoldsState, Relists}
-use Rattle.tlsf_heap.proofs.lemmas.words.Bytes.{length-bytes_in, get_or-bytes_in, held_bytes, size_of-with_bytes, is_free-with_bytes, mark_of-with_bytes, room-with_bytes, holds-with_bytes}
+use Rattle.tlsf_heap.proofs.lemmas.words.Bytes.{length-bytes_in, get_or-bytes_in, size_of-with_bytes, is_free-with_bytes, mark_of-with_bytes, room-with_bytes, holds-with_bytes}
 use Rattle.tlsf_heap.proofs.lemmas.words.Says.{says_here}
 use Rattle.tlsf_heap.proofs.lemmas.words.KeptLinks.{one_relisted}
 use Rattle.tlsf_heap.proofs.lemmas.words.Image.{word_at, shown_here, room_here}
 use Rattle.tlsf_heap.proofs.lemmas.words.Headers.{zeroed_before}
-use Rattle.tlsf_heap.proofs.lemmas.words.Zeros.{same_byte, zero_byte, zeroed_among, zeroed_behind, length-zeroed}
+use Rattle.tlsf_heap.proofs.lemmas.words.Zeros.{zero_byte, zeroed_among, zeroed_behind, length-zeroed}
 
--- n words behind the first payload word of a block at a place are zero, and all others are as they were
+-- n words behind the header of a block at a place are zero, and all others are as they were
 pub record ClearsBehind (m v : Image) (at n : ℕ) : Type 0 where
-  pub inside : at + 4 + n ≤ length m.words
-  pub words : v.words ≡ take (at + 4) m.words ++ replicate n 0 ++ drop (at + 4 + n) m.words
+  pub inside : at + 3 + n ≤ length m.words
+  pub words : v.words ≡ take (at + 3) m.words ++ replicate n 0 ++ drop (at + 3 + n) m.words
   pub starts : v.starts ≡ m.starts
 
 module _ {m v : Image} {at n : ℕ} (clears : ClearsBehind m v at n) where
-  pub clears_before : (k : ℕ) → k < at + 4 → word_at v k ≡ word_at m k
-  clears_before k h = ap (λ (l : List ℕ). get_or l k 0) clears.words ∙ zeroed_before m.words (at + 4) n k h (omega (arith, clears.inside))
+  pub clears_before : (k : ℕ) → k < at + 3 → word_at v k ≡ word_at m k
+  clears_before k h = ap (λ (l : List ℕ). get_or l k 0) clears.words ∙ zeroed_before m.words (at + 3) n k h (omega (arith, clears.inside))
 
-  clears_among : (k : ℕ) → at + 4 ≤ k → k < at + 4 + n → word_at v k ≡ 0
-  clears_among k low high = ap (λ (l : List ℕ). get_or l k 0) clears.words ∙ zeroed_among m.words (at + 4) n clears.inside k low high
+  clears_among : (k : ℕ) → at + 3 ≤ k → k < at + 3 + n → word_at v k ≡ 0
+  clears_among k low high = ap (λ (l : List ℕ). get_or l k 0) clears.words ∙ zeroed_among m.words (at + 3) n clears.inside k low high
 
-  pub clears_behind : (k : ℕ) → at + 4 + n ≤ k → word_at v k ≡ word_at m k
-  clears_behind k past = ap (λ (l : List ℕ). get_or l k 0) clears.words ∙ zeroed_behind m.words (at + 4) n clears.inside k past
+  pub clears_behind : (k : ℕ) → at + 3 + n ≤ k → word_at v k ≡ word_at m k
+  clears_behind k past = ap (λ (l : List ℕ). get_or l k 0) clears.words ∙ zeroed_behind m.words (at + 3) n clears.inside k past
 
   pub clears_length : length v.words ≡ length m.words
-  clears_length = ap length clears.words ∙ length-zeroed m.words (at + 4) n clears.inside
+  clears_length = ap length clears.words ∙ length-zeroed m.words (at + 3) n clears.inside
 
   -- the bytes of the payload are zero
-  zeros : (bytes : List ℕ) → bytes_in m.words (8 * (at + 3)) (length bytes) ≡ bytes → ((k : ℕ) → k < 8 → get_or bytes k 0 ≡ 0) → 3 + (length bytes + 7) / 8 ≤ 4 + n
-      → bytes_in v.words (8 * (at + 3)) (length bytes) ≡ replicate (length bytes) 0
-  zeros bytes held first fits =
-      let len = length bytes in
+  zeros : (len : ℕ) → 3 + (len + 7) / 8 ≤ 3 + n → bytes_in v.words (8 * (at + 3)) len ≡ replicate len 0
+  zeros len fits =
       let from = 8 * (at + 3) in
-      let many = length-bytes_in v.words from len in
-      ext_get_or 0 (bytes_in v.words from len) (replicate len 0) (many ∙ sym (length-replicate len 0)) (λ k h.
-      let inside : k < len = omega arith in
-      get_or-bytes_in v.words from len k (from + k) inside refl
-      ∙ elim (cases_lt k 8) [
-        | inl low ↦ same_byte m.words v.words (from + k) (clears_before ((from + k) / 8) (omega arith))
-            ∙ sym (get_or-bytes_in m.words from len k (from + k) inside refl) ∙ ap (λ (l : List ℕ). get_or l k 0) held ∙ first k low
-        | inr high ↦ zero_byte v.words (from + k) (clears_among ((from + k) / 8) (omega arith) (omega arith))
-      ]
+      ext_get_or 0 (bytes_in v.words from len) (replicate len 0) (length-bytes_in v.words from len ∙ sym (length-replicate len 0)) (λ k h.
+      let inside : k < len = omega (arith, h, length-bytes_in v.words from len) in
+      get_or-bytes_in v.words from len k (from + k) inside refl ∙ zero_byte v.words (from + k) (clears_among ((from + k) / 8) (omega arith) (omega arith))
       ∙ sym (get_or-replicate len k 0 0 inside))
 
 -- so the block has zeros
@@ -67,7 +59,7 @@ cleared_payload {m = m} {v = v} {bs = bs} {at = at} {n = n} shows found clears =
       tag = clears_before clears at (omega arith) ∙ sym (tag_word-fields word)
           ∙ ap (λ (free : Bool). tag_word (size_in word) (last_in word) free (back_in word)) (says.free ∙ sym (is_free-with_bytes b new));
       mark = clears_before clears (at + 1) (omega arith) ∙ says.mark ∙ sym (mark_of-with_bytes b new);
-      payload = holds-with_bytes m.words v.words at b new as_long (clears_before clears (at + 2) (omega arith)) (zeros clears (bytes_of b) (held_bytes m.words at b here.payload) is.first is.payload) here.payload;
+      payload = holds-with_bytes m.words v.words at b new as_long (clears_before clears (at + 2) (omega arith)) (zeros clears (length (bytes_of b)) is.payload) here.payload;
       before = λ k h. clears_before clears k (omega arith);
       behind = λ k h. clears_behind clears k (omega (arith, is.within));
       length = clears_length clears;

@@ -1,12 +1,12 @@
 -- A block whose header says another length of its payload: no other word changes, so its bytes are those that lie there.
-use Rattle.tlsf_heap.proofs.Common.{◌≡◌, ℕ, suc, ◌+◌, ◌*◌, ◌/◌, ◌<◌, ◌≤◌, Bool, true, false, List, ◌∷◌, [], ◌++◌, length, take, drop, inl, inr, sym, ap, ◌∙◌, arith, subst, append_assoc, Contains, AllByRecursion, false≢true, bytes_in, payload_byte, tag_word, size_in, last_in, back_in, length_word, ListHeads, AreDistinct, Image, Shows, Block, Live, Free, HeapState, size_of, is_free, payload_words, serials, stamps, words_for, StandsAt, named, with_bytes, with_blocks, payload_words_at, IsLive, lying, with_payload, with_payload_at, free_places, block_at, OnlyFrom, IsLawful, HasRoom, IsNamed, RegionState, list_in, Name}
+use Rattle.tlsf_heap.proofs.Common.{◌≡◌, ℕ, suc, ◌+◌, ◌*◌, ◌/◌, ◌<◌, ◌≤◌, Bool, true, false, List, ◌∷◌, [], ◌++◌, length, take, drop, inl, inr, sym, ap, ◌∙◌, arith, subst, append_assoc, Contains, AllByRecursion, false≢true, bytes_in, payload_byte, tag_word, size_in, last_in, back_in, length_word, ListHeads, AreDistinct, Image, Shows, Block, Live, Free, HeapState, size_of, is_free, bytes_of, payload_of, payload_words, serials, stamps, words_for, want, StandsAt, named, with_bytes, with_blocks, payload_words_at, IsLive, lying, with_payload, with_payload_at, free_places, block_at, OnlyFrom, IsLawful, HasRoom, IsNamed, RegionState, list_in, Name}
 use Rattle.tlsf_words.proofs.Bytes.{bytes_in-same, byte_in-same}
 use Rattle.tlsf_words.proofs.FieldLaws.{tag_word-fields}
 use Rattle.tlsf_heap.proofs.lemmas.calls.Allocate.{split_at}
 use Rattle.tlsf_heap.proofs.lemmas.words.Edit.{Leaves, leaves, one_changed}
 use Rattle.tlsf_heap.proofs.lemmas.blocks.Lawful.{all_append, all_left, all_right, serials-append, stamps-append, words_in-append, with_region, region_is}
 use Rattle.tlsf_heap.proofs.lemmas.words.Links.{HoldsState, IsListed, Relists}
-use Rattle.tlsf_heap.proofs.lemmas.calls.Alter.{named_of}
+use Rattle.tlsf_heap.proofs.lemmas.calls.Alter.{named_of, payload_is}
 use Rattle.tlsf_heap.proofs.lemmas.blocks.Grant.{four_words}
 use Rattle.tlsf_heap.proofs.lemmas.calls.Named.{named_is, named_live}
 use Rattle.tlsf_heap.proofs.lemmas.words.Bytes.{length-bytes_in, size_of-with_bytes, is_free-with_bytes, mark_of-with_bytes}
@@ -128,3 +128,18 @@ length_room h k name len same lawful live room =
     let four = four_words k.blocks lawful.rooms i found.1.1.within in
     subst (λ (s : HeapState). (is_named : IsNamed s name) × (is_free (block_at s.blocks is_named.1.0) ≡ false) × (words_for len ≤ size_of (block_at s.blocks is_named.1.0))) (sym same)
     (found, named_live name.at name.serial k.blocks i found.1.1, omega (arith, is, room, four))
+
+held_room : (b : Block) → HasRoom b → is_free b ≡ false → want (length (bytes_of b)) ≤ size_of b
+held_room (Live m s xs) room live = omega (arith, room.0, room.1)
+held_room (Free m s) room live = absurd (false≢true (sym live))
+
+-- its block, where its payload has this many bytes, and has room for them
+pub payload_room : (h k : HeapState) (name : Name) (len : ℕ) → h ≡ k → IsLawful k → IsLive k name → length (payload_of k name) ≡ len
+    → (is_named : IsNamed h name) × (is_free (block_at h.blocks is_named.1.0) ≡ false) × (length (bytes_of (block_at h.blocks is_named.1.0)) ≡ len) × (want len ≤ size_of (block_at h.blocks is_named.1.0))
+payload_room h k name len same lawful live many =
+    let found = named_of k name live in
+    let i = found.1.0 in
+    let is : length (bytes_of (block_at k.blocks i)) ≡ len = sym (ap length (payload_is k name found)) ∙ many in
+    let free = named_live name.at name.serial k.blocks i found.1.1 in
+    subst (λ (s : HeapState). (is_named : IsNamed s name) × (is_free (block_at s.blocks is_named.1.0) ≡ false) × (length (bytes_of (block_at s.blocks is_named.1.0)) ≡ len) × (want len ≤ size_of (block_at s.blocks is_named.1.0))) (sym same)
+    (found, free, is, rw is at (held_room (block_at k.blocks i) (all_right HasRoom (take i k.blocks) (block_at k.blocks i ∷ drop (suc i) k.blocks) (subst (AllByRecursion HasRoom) (split_at k.blocks i found.1.1.within) lawful.rooms)).0 free))

@@ -1,5 +1,5 @@
 -- The words of a region whose block took the free block behind it in, and was cut, show the blocks.
-use Rattle.tlsf_heap.proofs.Common.{◌≡◌, ◌≢◌, ℕ, suc, ◌+◌, ◌-◌, ◌<◌, ◌≤◌, inl, inr, Bool, true, false, cond, nat_le, eqb, List, [], ◌∷◌, ◌++◌, length, take, drop, get_or, refl, sym, ap, ◌∙◌, subst, arith, append_assoc, false≢true, cases_lt, cases_order, ne_eqb, nat_tests, length-set, get_or-set_same, get_or-set_other, Image, mark_of, HoldsPayload, BlockAt, back_behind, Shows, tag_word, ListHeads, nowhere, Tag, Block, Live, Free, size_of, words_in, is_free, bytes_of, words_for, StandsAt, HasRoom, first_free, past_free, cut, recut, Site, block_at, site_at, place_of, Widens, Recuts, without_start, RegionState, AreUnlisted, IsTagOf, IsTagBehind, list_in}
+use Rattle.tlsf_heap.proofs.Common.{◌≡◌, ◌≢◌, ℕ, suc, ◌+◌, ◌-◌, ◌<◌, ◌≤◌, inl, inr, Bool, true, false, cond, nat_le, eqb, List, [], ◌∷◌, ◌++◌, length, take, drop, get_or, refl, sym, ap, ◌∙◌, subst, arith, append_assoc, false≢true, cases_lt, cases_order, ne_eqb, nat_tests, length-set, get_or-set_same, get_or-set_other, Image, mark_of, HoldsPayload, BlockAt, back_behind, Shows, tag_word, ListHeads, nowhere, Tag, Block, Live, Free, size_of, words_in, is_free, bytes_of, words_for, StandsAt, HasRoom, first_free, past_free, cut, recut, block_at, site_at, place_of, Widens, Recuts, without_start, RegionState, AreUnlisted, IsWhole, list_in}
 use Rattle.tlsf_heap.proofs.lemmas.words.Links.{HoldsState, Reshapes, reshaped}
 use Rattle.tlsf_heap.proofs.lemmas.words.Merge.{Cleared, cleared, next_starts}
 use Rattle.tlsf_heap.proofs.lemmas.words.Says.{Says, says_here}
@@ -19,22 +19,6 @@ pub cut_large : (room n tick serial : ℕ) (bytes : List ℕ) → n + 4 ≤ room
 cut_large room n tick serial bytes h =
     let t : nat_le (n + 4) room ≡ true = grind (arith, nat_tests) in
     ap (λ (b : Bool). cond b (Live n serial bytes ∷ Free (room - n) tick ∷ []) (Live room serial bytes ∷ [])) t
-
--- the tag that a block and the free block of `after` words behind it have as one
-pub record IsWhole (words : ℕ) (s : Site) (tag : Tag) (after : ℕ) : Type 0 where
-  pub size : tag.size ≡ size_of s.block + after
-  pub behind : after ≡ first_free s.after
-  pub last : tag.last ≡ eqb (place_of s + size_of s.block + first_free s.after) words
-  pub back : tag.back ≡ back_behind 0 nowhere s.before
-
-pub whole_is : {words long after : ℕ} {s : Site} {own next : Tag} (tag : Tag) → long ≡ words → IsTagOf words s own → IsTagBehind words s next → after ≡ next.size → tag.size ≡ own.size + after → tag.last ≡ next.last → tag.back ≡ own.back
-    → IsWhole long s tag after
-whole_is {s = s} {next = next} tag same own behind read size last back = record {
-  size = omega (arith, size, own.size);
-  behind = read ∙ behind.size;
-  last = last ∙ behind.last ∙ ap (eqb (place_of s + size_of s.block + first_free s.after)) (sym same);
-  back = back ∙ own.back;
-}
 
 module _ {m : Image} {bs : List Block} (shows : Shows m bs) {at i : ℕ} (stands : StandsAt bs at i) {tag : Tag} {after : ℕ} (is : IsWhole (length m.words) (site_at bs i) tag after) where
   abbrev front : List Block
@@ -57,13 +41,13 @@ module _ {m : Image} {bs : List Block} (shows : Shows m bs) {at i : ℕ} (stands
 
   pub whole_ends : at + tag.size ≤ length m.words
   whole_ends = elim (cases_lt 0 (first_free back)) [
-    | inl some ↦ omega (arith, (next_starts shows stands some).0, is.size, is.behind)
-    | inr none ↦ omega (arith, says.ends, is.size, is.behind)
+    | inl some ↦ omega (arith, (next_starts shows stands some).0, is.size, is.after)
+    | inr none ↦ omega (arith, says.ends, is.size, is.after)
   ]
 
   pub whole_last : tag.last ≡ eqb (at + tag.size) (length m.words)
   whole_last =
-      let e : place_of (site_at bs i) + size_of block + first_free back ≡ at + tag.size = omega (arith, stands.place, is.size, is.behind) in
+      let e : place_of (site_at bs i) + size_of block + first_free back ≡ at + tag.size = omega (arith, stands.place, is.size, is.after) in
       is.last ∙ ap (λ n. eqb n (length m.words)) e
 
   pub whole_least : after + 4 ≤ tag.size
@@ -81,7 +65,7 @@ module _ {m : Image} {bs : List Block} (shows : Shows m bs) {at i : ℕ} (stands
         (one.gone (omega (arith, e, g, is.size)) (omega (arith, shows.mapped, whole_ends, middle, e, g)))
     | inr (inl below) ↦ one.others k (λ f. omega (arith, f, below, middle)) ∙ says.starts.others k l below
     | inr (inr past) ↦ one.others k (λ f. omega (arith, f, past, middle))
-        ∙ (next_starts shows stands (omega (arith, past, g, is.size, is.behind))).1.others k past (omega (arith, g, is.size, is.behind))
+        ∙ (next_starts shows stands (omega (arith, past, g, is.size, is.after))).1.others k past (omega (arith, g, is.size, is.after))
   ]
 
   kept_before : (k : ℕ) → k ≤ at → get_or cleared_starts k false ≡ start_at m k
@@ -94,14 +78,14 @@ module _ {m : Image} {bs : List Block} (shows : Shows m bs) {at i : ℕ} (stands
   first_start = kept_before at (omega arith) ∙ says.starts.first
 
   last_word : (n : ℕ) → n ≡ length m.words → tag.last ≡ eqb end n
-  last_word n same = let sum : words_in front + size_of block + first_free back ≡ end = omega (arith, stands.place, is.size, is.behind) in is.last ∙ rw (sum, same) refl
+  last_word n same = let sum : words_in front + size_of block + first_free back ≡ end = omega (arith, stands.place, is.size, is.after) in is.last ∙ rw (sum, same) refl
 
   -- the blocks that become others
   abbrev old : List Block
   old = block ∷ (first_part back).0
 
   words_old : words_in old ≡ tag.size
-  words_old = omega (arith, (first_part back).2, is.size, is.behind)
+  words_old = omega (arith, (first_part back).2, is.size, is.after)
 
   pub whole_parts : front ++ old ++ past_free back ≡ bs
   whole_parts = append_assoc front old (past_free back) ∙ ap (λ (l : List Block). front ++ block ∷ l) (sym (first_part back).1) ∙ sym (around bs at i stands).is
@@ -206,7 +190,7 @@ module _ (sli : ℕ) {m v : Image} {l : ListHeads} {r : RegionState} (state : Ho
   left_by : (new : List Block) → Replaces m v (take i r.blocks) (block_at r.blocks i ∷ (first_part (drop (suc i) r.blocks)).0) new → new ≡ cut tag.size n stamp (mark_of (block_at r.blocks i)) (bytes_of (block_at r.blocks i))
       → Reshapes sli v l (take i r.blocks ++ recut stamp n (block_at r.blocks i) (drop (suc i) r.blocks)) r.lists
   left_by new replaces same =
-      let room : tag.size ≡ size_of (block_at r.blocks i) + first_free (drop (suc i) r.blocks) = omega (arith, is.size, is.behind) in
+      let room : tag.size ≡ size_of (block_at r.blocks i) + first_free (drop (suc i) r.blocks) = omega (arith, is.size, is.after) in
       let cuts : new ++ past_free (drop (suc i) r.blocks) ≡ recut stamp n (block_at r.blocks i) (drop (suc i) r.blocks) =
       ap (λ (bs : List Block). bs ++ past_free (drop (suc i) r.blocks)) (same ∙ ap (λ (k : ℕ). cut k n stamp (mark_of (block_at r.blocks i)) (bytes_of (block_at r.blocks i))) room)
       ∙ ap (λ (b : Block). recut stamp n b (drop (suc i) r.blocks)) (sym (live_as (block_at r.blocks i) live)) in

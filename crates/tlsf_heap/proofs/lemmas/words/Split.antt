@@ -1,11 +1,10 @@
 -- The words of a region whose block was made a live one, whole or with a free rest, show the blocks.
-use Rattle.tlsf_heap.proofs.Common.{◌≡◌, ◌≢◌, ℕ, suc, inl, inr, ◌+◌, ◌-◌, ◌*◌, ◌/◌, ◌≤◌, Bool, true, false, eqb, List, [], ◌∷◌, ◌++◌, length, take, drop, get_or, refl, sym, ap, ◌∙◌, arith, append_assoc, cases_lt, ne_eqb, get_or_past, length-set, get_or-set_same, get_or-set_other, Image, HoldsPayload, BlockAt, back_behind, Shows, tag_word, length_word, bytes_in, payload_byte, Tag, nowhere, Block, Live, Free, size_of, words_for, StandsAt, block_at, site_at, HasLive, Splits, Wholes, ListHeads, RegionState, AreUnlisted, IsTagOf, BeginsZero, list_in}
+use Rattle.tlsf_heap.proofs.Common.{◌≡◌, ◌≢◌, ℕ, suc, ◌+◌, ◌-◌, ◌*◌, ◌≤◌, Bool, true, false, eqb, List, [], ◌∷◌, ◌++◌, length, take, drop, get_or, refl, sym, ap, ◌∙◌, arith, append_assoc, ne_eqb, length-set, get_or-set_same, get_or-set_other, Image, HoldsPayload, BlockAt, back_behind, Shows, tag_word, length_word, bytes_in, payload_byte, Tag, nowhere, Block, Live, Free, size_of, words_for, StandsAt, block_at, site_at, HasLive, Splits, Wholes, ListHeads, RegionState, AreUnlisted, IsTagOf, list_in}
 use Rattle.tlsf_heap.proofs.lemmas.words.Image.{Replaces, start_at}
 use Rattle.tlsf_heap.proofs.lemmas.words.Says.{says_here}
 use Rattle.tlsf_heap.proofs.lemmas.words.Edit.{next_same}
 use Rattle.tlsf_heap.proofs.lemmas.calls.Allocate.{split_at}
-use Rattle.tlsf_heap.proofs.lemmas.words.Bytes.{length-bytes_in, get_or-bytes_in}
-use Rattle.tlsf_heap.proofs.lemmas.words.Zeros.{zero_byte}
+use Rattle.tlsf_heap.proofs.lemmas.words.Bytes.{length-bytes_in}
 use Rattle.tlsf_heap.proofs.lemmas.words.Links.{HoldsState, Reshapes, reshaped}
 
 -- the bytes that a block of `len` bytes at a place has
@@ -17,14 +16,6 @@ holds_stored v {at = at} {len = len} live =
     let many : length (stored_bytes v at len) ≡ len = length-bytes_in v.words (payload_byte at 0) len in
     let from : 8 * (at + 3) ≡ payload_byte at 0 = omega arith in
     (live.bytes ∙ ap length_word (sym many), ap (bytes_in v.words (8 * (at + 3))) many ∙ ap (λ (k : ℕ). bytes_in v.words k len) from)
-
--- they begin with zeros where the first payload word is zero
-pub begins_zero : (words : List ℕ) (at len : ℕ) → get_or words (at + 3) 0 ≡ 0 → BeginsZero (bytes_in words (payload_byte at 0) len)
-begins_zero words at len zero k low = elim (cases_lt k len) [
-  | inl inside ↦ get_or-bytes_in words (payload_byte at 0) len k (payload_byte at 0 + k) inside refl
-      ∙ zero_byte words (payload_byte at 0 + k) (ap (λ (j : ℕ). get_or words j 0) (let here : (payload_byte at 0 + k) / 8 ≡ at + 3 = omega arith in here) ∙ zero)
-  | inr past ↦ get_or_past (bytes_in words (payload_byte at 0) len) k 0 (omega (arith, length-bytes_in words (payload_byte at 0) len))
-]
 
 -- a tag says the size of the block at a place, whether it is the last one, and the place before
 pub record IsTagHere (m : Image) (bs : List Block) (at i : ℕ) (tag : Tag) : Type 0 where

@@ -1,6 +1,7 @@
 use Rattle.tlsf_heap.proofs.Common.{◌≡◌, ℕ, suc, ◌+◌, ◌≤◌, List, ◌++◌, take, drop, false, length, sym, ap, ◌∙◌, subst, arith, Tag, Block, StandsAt, size_of, is_free, bytes_of, words_for, first_free, fitted, block_at, AreRegions, EachAt, IsTagOf, IsTagBehind, list_in}
 use Rattle.tlsf_heap.proofs.lemmas.lists.Refit.{payload_room, rebytes_listed, refitted_grown, recut_stands, recut_bytes, recut_takes, recut_rebytes}
 use Rattle.tlsf_heap.proofs.lemmas.blocks.Around.{one_index}
+use Rattle.tlsf_heap.proofs.lemmas.blocks.Neighbours.{behind_free}
 use Rattle.tlsf_heap.proofs.lemmas.words.Footprint.{recut_lasts}
 use Rattle.tlsf_heap.proofs.lemmas.blocks.Used.{used_rebytes}
 use Rattle.tlsf_words.proofs.Touching.{more_groups, groups_then}
@@ -28,8 +29,11 @@ recut-left-requires g c =
             (
               c.requires.own,
               (
-                c.requires.next,
-                c.requires.room,
+                λ i stands. (c.requires.next i stands).next,
+                (
+                  behind_free (c.requires.next live.0 live.1) (omega (arith, c.requires.more, c.requires.room)),
+                  c.requires.room,
+                ),
               ),
             ),
           ),

@@ -5,6 +5,7 @@ use Rattle.tlsf_class.proofs.TwoLevels.{most_words_any}
 use Rattle.tlsf_heap.proofs.lemmas.calls.AllocateAligned.{IsAligned, has_live, has_room, none_fits, aligned_past, first_moves, first_moved, gives_name, gives_payload, gives_others}
 use Rattle.tlsf_heap.proofs.lemmas.blocks.Sites.{fits_nothing}
 use Rattle.tlsf_heap.proofs.lemmas.laws.WordsInUse.{words_set}
+use Rattle.tlsf_heap.proofs.lemmas.calls.Filled.{unfilled}
 use Rattle.tlsf_heap.proofs.lemmas.calls.Leaves.{moved_word, given_word}
 use Rattle.tlsf_words.proofs.Touching.{more_groups, groups_then}
 use Rattle.tlsf_heap.proofs.heap.Heap.allocate_aligned.Given.{Over}
@@ -83,7 +84,7 @@ returns-in-Err-clause-allocates g c =
       unchanged = search rules;
       touches = search rules;
       rise = search rules;
-      leaves = λ k live. c.allocate_words.ensures.allocates.leaves k live;
+      leaves = λ k live. c.allocate_unset_words.ensures.allocates.leaves k live;
     }
 
 -- ---- the block is moved on
@@ -91,17 +92,17 @@ returns-in-Err-clause-allocates g c =
 pub move_on-requires : goal.move_on-requires
 move_on-requires g c =
     let h = c.args.self.now.heap in
-    let a = c.allocate_words.new.self.heap in
+    let a = c.allocate_unset_words.new.self.heap in
     let view = ap (λ (s : Shown). s.heap) c.self.view_is in
     let lawful = subst IsLawful view c.self.invariant.lawful in
     let left : h.tick + 3 < last_tick = omega (arith, ap (λ (s : HeapState). s.tick) view, c.if-self.false) in
     let least : 4 ≤ c.want-words.result = omega (arith, c.want-words.ensures) in
-    let moves = first_moves g.row.SLI c.self.invariant.level h c.want-words.result c.max-step.result c.args.skew lawful left (omega (arith, c.max-step.ensures)) least a c.in-Ok.first c.gap-gap.result c.allocate_words.ensures.allocates.heap c.in-Ok.ensures.allocates.answer_is c.allocate_words.ensures.frame.keeps.lawful c.gap-gap.ensures in (
+    let moves = first_moves g.row.SLI c.self.invariant.level h c.want-words.result c.max-step.result c.args.skew lawful left (omega (arith, c.max-step.ensures)) least a c.in-Ok.first c.gap-gap.result (unfilled g.row.SLI _ 0 c.in-Ok.ensures.frame.keeps.level (omega arith) c.in-Ok.ensures.frame.keeps.was_lawful c.in-Ok.ensures.frame.keeps.lawful c.in-Ok.ensures.allocates refl) c.in-Ok.ensures.allocates.answer_is c.allocate_unset_words.ensures.frame.keeps.lawful c.gap-gap.ensures in (
       omega arith,
       (
         has_live a c.in-Ok.first (c.gap-gap.result + c.want-words.result) moves.has,
         (
-          has_room a c.in-Ok.first (c.gap-gap.result + c.want-words.result) c.allocate_words.ensures.frame.keeps.lawful moves.has,
+          has_room a c.in-Ok.first (c.gap-gap.result + c.want-words.result) c.allocate_unset_words.ensures.frame.keeps.lawful moves.has,
           (least, (moves.front, (moves.left, omega (arith, moves.words, ap (λ (s : HeapState). s.words) view, c.self.invariant.small, most_words_any g.row.SLI)))),
         ),
       ),
@@ -112,12 +113,12 @@ move_on-requires g c =
 pub set_length-requires : goal.set_length-requires
 set_length-requires g c =
     let h = c.args.self.now.heap in
-    let a = c.allocate_words.new.self.heap in
+    let a = c.allocate_unset_words.new.self.heap in
     let m = c.move_on.new.self.heap in
     let view = ap (λ (s : Shown). s.heap) c.self.view_is in
     let lawful = subst IsLawful view c.self.invariant.lawful in
     let left : h.tick + 3 < last_tick = omega (arith, ap (λ (s : HeapState). s.tick) view, c.if-self.false) in
-    let done = first_moved g.row.SLI c.self.invariant.level h c.want-words.result c.max-step.result c.args.skew lawful left (omega (arith, c.max-step.ensures)) (omega (arith, c.want-words.ensures)) a c.in-Ok.first c.gap-gap.result c.allocate_words.ensures.allocates.heap c.in-Ok.ensures.allocates.answer_is c.allocate_words.ensures.frame.keeps.lawful c.gap-gap.ensures
+    let done = first_moved g.row.SLI c.self.invariant.level h c.want-words.result c.max-step.result c.args.skew lawful left (omega (arith, c.max-step.ensures)) (omega (arith, c.want-words.ensures)) a c.in-Ok.first c.gap-gap.result (unfilled g.row.SLI _ 0 c.in-Ok.ensures.frame.keeps.level (omega arith) c.in-Ok.ensures.frame.keeps.was_lawful c.in-Ok.ensures.frame.keeps.lawful c.in-Ok.ensures.allocates refl) c.in-Ok.ensures.allocates.answer_is c.allocate_unset_words.ensures.frame.keeps.lawful c.gap-gap.ensures
     m c.in_ok-name.name c.move_on.ensures.heap c.in_ok-name.ensures.answer in
     let has = done.gives.has in
     let room = has_room m c.in_ok-name.name c.want-words.result c.move_on.ensures.keeps.lawful has in
@@ -126,11 +127,11 @@ set_length-requires g c =
 done : (g : Over) (c : goal.After-set_length g) → IsAligned g.row.SLI c.args.self.now.heap c.move_on.new.self.heap c.want-words.result c.max-step.result c.args.skew c.in_ok-name.name
 done g c =
     let h = c.args.self.now.heap in
-    let a = c.allocate_words.new.self.heap in
+    let a = c.allocate_unset_words.new.self.heap in
     let view = ap (λ (s : Shown). s.heap) c.self.view_is in
     let lawful = subst IsLawful view c.self.invariant.lawful in
     let left : h.tick + 3 < last_tick = omega (arith, ap (λ (s : HeapState). s.tick) view, c.if-self.false) in
-    first_moved g.row.SLI c.self.invariant.level h c.want-words.result c.max-step.result c.args.skew lawful left (omega (arith, c.max-step.ensures)) (omega (arith, c.want-words.ensures)) a c.in-Ok.first c.gap-gap.result c.allocate_words.ensures.allocates.heap c.in-Ok.ensures.allocates.answer_is c.allocate_words.ensures.frame.keeps.lawful c.gap-gap.ensures
+    first_moved g.row.SLI c.self.invariant.level h c.want-words.result c.max-step.result c.args.skew lawful left (omega (arith, c.max-step.ensures)) (omega (arith, c.want-words.ensures)) a c.in-Ok.first c.gap-gap.result (unfilled g.row.SLI _ 0 c.in-Ok.ensures.frame.keeps.level (omega arith) c.in-Ok.ensures.frame.keeps.was_lawful c.in-Ok.ensures.frame.keeps.lawful c.in-Ok.ensures.allocates refl) c.in-Ok.ensures.allocates.answer_is c.allocate_unset_words.ensures.frame.keeps.lawful c.gap-gap.ensures
     c.move_on.new.self.heap c.in_ok-name.name c.move_on.ensures.heap c.in_ok-name.ensures.answer
 
 -- the name is live, with the bytes that lie there
@@ -140,7 +141,7 @@ given g c =
     let h = c.args.self.now.heap in
     let name = c.in_ok-name.name in
     let bytes = lying c.set_length.new.self.stored name.at c.args.len in
-    let lawful = c.allocate_words.ensures.frame.keeps.was_lawful in
+    let lawful = c.allocate_unset_words.ensures.frame.keeps.was_lawful in
     let is = c.set_length.ensures.heap ∙ ap (λ (s : HeapState). with_payload s name bytes) c.set_most_in_use.ensures.heap in
     record {
       heap = is ∙ ap (λ (s : HeapState). with_payload s name bytes) (rw (c.want-words.ensures, c.max-step.ensures) at (done g c).is_heap);
@@ -154,10 +155,10 @@ left_alone : (g : Over) (c : goal.After-set_length g) → LeavesLive c.args.self
 left_alone g c k live =
     let h = c.args.self.now.heap in
     let first = c.in-Ok.first in
-    let e = c.allocate_words.ensures in
+    let e = c.allocate_unset_words.ensures in
     let given = given_word h (suc live.1) k (live.0, live.1, live.2, live.3, λ e. omega (arith, e)) g.row.SLI _ 0 e.frame.keeps.was_lawful first (sym e.allocates.answer_is ∙ c.in-Ok.is) in
-    let left = subst (λ (s : HeapState). IsOthersWord s.blocks first.at k) (sym e.allocates.heap) given in
-    let after = subst (λ (s : HeapState). IsLiveWord s.blocks k) (sym (c.set_most_in_use.ensures.heap ∙ c.move_on.ensures.heap)) (moved_word c.allocate_words.new.self.heap first c.gap-gap.result c.want-words.result k left) in
+    let left = subst (λ (s : HeapState). IsOthersWord s.blocks first.at k) (sym (unfilled g.row.SLI _ 0 c.in-Ok.ensures.frame.keeps.level (omega arith) e.frame.keeps.was_lawful e.frame.keeps.lawful c.in-Ok.ensures.allocates refl)) given in
+    let after = subst (λ (s : HeapState). IsLiveWord s.blocks k) (sym (c.set_most_in_use.ensures.heap ∙ c.move_on.ensures.heap)) (moved_word c.allocate_unset_words.new.self.heap first c.gap-gap.result c.want-words.result k left) in
     c.set_length.ensures.leaves k after ∙ ap (λ (l : List ℕ). times l k) c.set_most_in_use.ensures.touched ∙ c.move_on.ensures.leaves k left ∙ e.allocates.leaves k live
 
 pub returns-clause-allocates : goal.returns-clause-allocates
@@ -180,7 +181,7 @@ returns-clause-frame g c = record {
   peak =
       let bytes = lying c.set_length.new.self.stored c.in_ok-name.name.at c.args.len in
       omega (arith, ap (λ (s : Shown). s.most_in_use) c.self.view_is, ap words_in_use c.set_length.ensures.heap, (words_set g.row.SLI c.set_most_in_use.new.self.heap (Fill c.in_ok-name.name bytes) tt).0, c.set_most_in_use.ensures.most, c.set_length.ensures.frame.most);
-  groups = more_groups (omega arith) (groups_then (groups_then c.allocate_words.ensures.frame.groups c.move_on.ensures.groups) (rw c.set_most_in_use.ensures.touched at c.set_length.ensures.frame.groups));
+  groups = more_groups (omega arith) (groups_then (groups_then c.allocate_unset_words.ensures.frame.groups c.move_on.ensures.groups) (rw c.set_most_in_use.ensures.touched at c.set_length.ensures.frame.groups));
 }
 
 -- ---- the move is never refused
@@ -201,7 +202,7 @@ returns-in_err-name-clause-allocates g c =
 -- ---- groups of eight words
 
 pub returns-in-Err-clause-frame : goal.returns-in-Err-clause-frame
-returns-in-Err-clause-frame g c = record { err = search rules; keeps = search rules; peak = search rules; groups = more_groups (omega arith) c.allocate_words.ensures.frame.groups }
+returns-in-Err-clause-frame g c = record { err = search rules; keeps = search rules; peak = search rules; groups = more_groups (omega arith) c.allocate_unset_words.ensures.frame.groups }
 
 pub returns-in_err-name-clause-frame : goal.returns-in_err-name-clause-frame
-returns-in_err-name-clause-frame g c = record { err = search rules; keeps = search rules; peak = search rules; groups = more_groups (omega arith) (groups_then c.allocate_words.ensures.frame.groups c.move_on.ensures.groups) }
+returns-in_err-name-clause-frame g c = record { err = search rules; keeps = search rules; peak = search rules; groups = more_groups (omega arith) (groups_then c.allocate_unset_words.ensures.frame.groups c.move_on.ensures.groups) }

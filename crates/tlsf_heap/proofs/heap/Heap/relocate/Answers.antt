@@ -56,7 +56,7 @@ returns-clause-frame g c = record {
       (ap words_in_use given.allocates.heap) given.frame.peak c.hand_over.ensures.frame.most (ap (λ (s : HeapState). words_at s c.in_ok-new.new.at) left));
   groups =
       let given = c.in_ok-new.ensures in
-      let many = given_length g.row.SLI c.args.self.now.heap c.args.len c.in_ok-new.new given.frame.keeps.was_lawful (sym given.allocates.answer_is) in
+      let many = given_length g.row.SLI c.args.self.now.heap (want c.args.len) c.args.len c.in_ok-new.new given.frame.keeps.was_lawful (sym given.allocates.answer_is) in
       let held = ap (λ (s : HeapState). length (payload_of s c.in_ok-new.new)) given.allocates.heap in
       more_groups (omega (arith, many, held)) (groups_then given.frame.groups c.hand_over.ensures.frame.groups);
 }

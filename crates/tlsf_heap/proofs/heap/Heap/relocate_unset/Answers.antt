@@ -66,7 +66,7 @@ returns-clause-frame g c = record {
       more_groups (omega (arith, held.0, held.1)) (groups_then given.frame.groups c.hand_over.ensures.frame.groups);
 }
 
--- ---- 31 for the request, 35 and two a word for the copy and the release
+-- ---- 26 for the request, 35 and two a word for the copy and the release
 
 pub returns-clause-touches : goal.returns-clause-touches
 returns-clause-touches g c =

@@ -58,9 +58,6 @@ returns-clause-heap g c = (set g c).is_heap ∙ ap (λ (s : Shown). with_payload
 pub returns-clause-lies : goal.returns-clause-lies
 returns-clause-lies g c = same_lying c.self.inside.region.stored c.set_length.new.self.stored c.args.name.at c.args.len c.set_length.ensures.only ∙ ap (λ (s : Shown). lying s.stored c.args.name.at c.args.len) c.self.view_is
 
-pub returns-clause-level : goal.returns-clause-level
-returns-clause-level g c = c.self.invariant.level
-
 pub returns-clause-frame : goal.returns-clause-frame
 returns-clause-frame g c = record {
   keeps =

@@ -101,8 +101,8 @@ remove-requires g c =
     let region = region_here g.row.SLI f in
     (omega arith, (c.self.invariant.level, (omega (arith, size, region.0), (omega (arith, size, region.1), rw (reads.lists, size) (contains_here g.row.SLI f c.self.invariant.listed)))))
 
-pub give_unset-given-requires : goal.give_unset-given-requires
-give_unset-given-requires g c =
+pub give-given-requires : goal.give-given-requires
+give-given-requires g c =
     let reads = c.free_at.ensures.reads in
     let l = c.in-Some.ensures.answer in
     let sized = lawful_regions g.row.SLI (state_of g.row.SLI c.self.inside) c.self.invariant.lawful c.self.invariant.small in
@@ -134,33 +134,33 @@ give_unset-given-requires g c =
     )
 
 given : (g : Over) (c : goal.After-self-1 g)
-    → GivesFrom c.args.self.now.heap c.args.at c.args.words (Ok (record { heap = c.self.inside.id; at = c.args.at; serial = c.self.inside.tick })) (with_region (state_of g.row.SLI c.self.inside) (c.self.inside.tick + 1) c.give_unset-given.new.region)
+    → GivesFrom c.args.self.now.heap c.args.at c.args.words (Ok (record { heap = c.self.inside.id; at = c.args.at; serial = c.self.inside.tick })) (with_region (state_of g.row.SLI c.self.inside) (c.self.inside.tick + 1) c.give-given.new.region)
 unfolding bytes_in
 given g c =
     let reads = c.free_at.ensures.reads in
     let l = c.in-Some.ensures.answer in
     let h : HeapState = state_of g.row.SLI c.self.inside in
     let was = c.remove.ensures.blocks ∙ reads.blocks in
-    let blocks = ((rw was at c.give_unset-given.ensures.carved) l.0 l.1.stands).blocks in
-    let edits = ((rw was at c.give_unset-given.ensures.carved) l.0 l.1.stands).edits in
-    subst (λ (s : HeapState). GivesFrom s c.args.at c.args.words (Ok (record { heap = c.self.inside.id; at = c.args.at; serial = c.self.inside.tick })) (with_region h (c.self.inside.tick + 1) c.give_unset-given.new.region)) (ap (λ (s : Shown). s.heap) c.self.view_is)
+    let blocks = ((rw was at c.give-given.ensures.carved) l.0 l.1.stands).blocks in
+    let edits = ((rw was at c.give-given.ensures.carved) l.0 l.1.stands).edits in
+    subst (λ (s : HeapState). GivesFrom s c.args.at c.args.words (Ok (record { heap = c.self.inside.id; at = c.args.at; serial = c.self.inside.tick })) (with_region h (c.self.inside.tick + 1) c.give-given.new.region)) (ap (λ (s : Shown). s.heap) c.self.view_is)
     (from_done h h c.args.at c.args.words c.self.invariant.lawful refl l.0 l.1 (omega (arith, l.2.size, c.size-size.ensures.value, c.if-size-words.false)) (omega (arith, c.requires)) c.if-self.false
-    c.give_unset-given.new.region (edits.words ∙ c.remove.ensures.edits.words ∙ reads.words) blocks)
+    c.give-given.new.region (edits.words ∙ c.remove.ensures.edits.words ∙ reads.words) blocks)
 
 -- no more words are in use than the region has
 pub give-requires : goal.give-requires
 give-requires g c =
     let l = c.in-Some.ensures.answer in
     let was = c.remove.ensures.blocks ∙ c.free_at.ensures.reads.blocks in
-    let edits = ((rw was at c.give_unset-given.ensures.carved) l.0 l.1.stands).edits in
-    omega (arith, used_small edits.shows, (rw was at c.give_unset-given.ensures.used), c.self.invariant.in_use)
+    let edits = ((rw was at c.give-given.ensures.carved) l.0 l.1.stands).edits in
+    omega (arith, used_small edits.shows, (rw was at c.give-given.ensures.used), c.self.invariant.in_use)
 
 pub invariant_of-self-2 : goal.invariant_of-self-2
 invariant_of-self-2 g c =
     let reads = c.free_at.ensures.reads in
     let l = c.in-Some.ensures.answer in
-    let edits = ((rw (c.remove.ensures.blocks ∙ reads.blocks) at c.give_unset-given.ensures.carved) l.0 l.1.stands).edits in
-    let used = more_use g.row.SLI c.self.inside c.self.view_is c.self.invariant c.give_unset-given.new.region.blocks c.give_unset-given.result c.give.new.self (rw (c.remove.ensures.blocks ∙ reads.blocks) at c.give_unset-given.ensures.used) c.give.ensures in
+    let edits = ((rw (c.remove.ensures.blocks ∙ reads.blocks) at c.give-given.ensures.carved) l.0 l.1.stands).edits in
+    let used = more_use g.row.SLI c.self.inside c.self.view_is c.self.invariant c.give-given.new.region.blocks c.give-given.result c.give.new.self (rw (c.remove.ensures.blocks ∙ reads.blocks) at c.give-given.ensures.used) c.give.ensures in
     record {
       lawful = (given g c).lawful;
       shows = edits.shows;
@@ -168,7 +168,7 @@ invariant_of-self-2 g c =
       bits = edits.bits;
       level = c.self.invariant.level;
       small = omega (arith, edits.words, c.remove.ensures.edits.words, reads.words, c.self.invariant.small);
-      listed = ((rw (c.remove.ensures.blocks ∙ reads.blocks) at c.give_unset-given.ensures.carved) l.0 l.1.stands).listed;
+      listed = ((rw (c.remove.ensures.blocks ∙ reads.blocks) at c.give-given.ensures.carved) l.0 l.1.stands).listed;
       in_use = used.words;
       most_in_use = used.most;
     }
@@ -187,10 +187,10 @@ returns-clause-frame g c = record {
   err = search rules;
   keeps =
       let l = c.in-Some.ensures.answer in
-      let edits = ((rw (c.remove.ensures.blocks ∙ c.free_at.ensures.reads.blocks) at c.give_unset-given.ensures.carved) l.0 l.1.stands).edits in
+      let edits = ((rw (c.remove.ensures.blocks ∙ c.free_at.ensures.reads.blocks) at c.give-given.ensures.carved) l.0 l.1.stands).edits in
       keeps_stored g.row.SLI c.self.inside c.self.view_is c.self.invariant _ (invariant_of-self-2 g c) (omega (arith, edits.rise, c.remove.ensures.edits.rise, c.free_at.ensures.reads.rise)) (edits.stays ∙ c.remove.ensures.edits.stays ∙ c.free_at.ensures.reads.stays);
   peak = search rules;
-  groups = subst (λ (s : Shown). InGroups 12 s.touched c.give_unset-given.new.region.touched) c.self.view_is (more_groups (omega arith) (groups_then (groups_then c.free_at.ensures.groups c.remove.ensures.groups) c.give_unset-given.ensures.groups));
+  groups = subst (λ (s : Shown). InGroups 11 s.touched c.give-given.new.region.touched) c.self.view_is (more_groups (omega arith) (groups_then (groups_then c.free_at.ensures.groups c.remove.ensures.groups) c.give-given.ensures.groups));
 }
 
 -- 2 to find the block, 6 to take it out, 9 for the headers, and 7 to list the rest
@@ -198,7 +198,7 @@ pub returns-clause-touches : goal.returns-clause-touches
 returns-clause-touches g c =
     let reads = c.free_at.ensures.reads in
     let l = c.in-Some.ensures.answer in
-    let edits = ((rw (c.remove.ensures.blocks ∙ reads.blocks) at c.give_unset-given.ensures.carved) l.0 l.1.stands).edits in
+    let edits = ((rw (c.remove.ensures.blocks ∙ reads.blocks) at c.give-given.ensures.carved) l.0 l.1.stands).edits in
     omega (arith, edits.touches, c.remove.ensures.edits.touches, reads.touches, ap (λ (s : Shown). s.touches) c.self.view_is)
 
 -- ---- the place is one of the region
@@ -226,7 +226,7 @@ returns-then-self-clause-leaves g c = seen_live g.row.SLI c.self.inside c.self.v
 pub returns-clause-leaves : goal.returns-clause-leaves
 returns-clause-leaves g c = seen_live g.row.SLI c.self.inside c.self.view_is _ (λ k live.
     let blocks = c.free_at.ensures.reads.blocks in
-    (rw (c.remove.ensures.blocks ∙ blocks) at c.give_unset-given.ensures.touched) k live ∙ (rw blocks at c.remove.ensures.touched) k live ∙ c.free_at.ensures.touched k live)
+    (rw (c.remove.ensures.blocks ∙ blocks) at c.give-given.ensures.touched) k live ∙ (rw blocks at c.remove.ensures.touched) k live ∙ c.free_at.ensures.touched k live)
 
 -- ---- groups of eight words
 

@@ -2,7 +2,7 @@
 use Rattle.tlsf_heap.proofs.Common.{◌⊎◌, ℕ, ◌+◌, [], ◌∷◌, ◌++◌, take, drop, suc, ap, ◌∙◌, arith, ◌≡◌, ◌≢◌, ◌<◌, ◌≤◌, true, sym, subst, List, inl, inr, Live, size_of, StandsAt, is_free, block_at, site_at, RegionState, IsTagOf, image_of, times, InGroups}
 use Rattle.tlsf_heap.proofs.lemmas.words.Says.{shows_state, says_here, at_index}
 use Rattle.tlsf_heap.proofs.lemmas.words.Links.{linked_lists, marked_lists, Reshapes, holds_state}
-use Rattle.tlsf_heap.proofs.lemmas.words.Split.{stored_bytes, begins_zero, tag_here, left_whole}
+use Rattle.tlsf_heap.proofs.lemmas.words.Split.{stored_bytes, tag_here, left_whole}
 use Rattle.tlsf_words.proofs.Touching.{times_other}
 use Rattle.tlsf_heap.proofs.lemmas.words.Footprint.{free_elsewhere, others_apart}
 use Rattle.tlsf_heap.proofs.lemmas.words.Groups.{one_row}
@@ -25,9 +25,6 @@ reshapes g c i stands =
 pub invariant_of-self : goal.invariant_of-self
 invariant_of-self g c = (reshapes g c c.requires.own.0 c.requires.own.1).holds
 
-pub returns-clause-first : goal.returns-clause-first
-returns-clause-first g c = begins_zero c.live_header.new.words.words c.args.at c.args.len c.live_header.ensures.change.live.first
-
 pub returns-clause-change : goal.returns-clause-change
 returns-clause-change g c i stands =
     let left = reshapes g c i stands in
@@ -47,11 +44,10 @@ returns-clause-change g c i stands =
       };
     }
 
--- a header and the first payload word are touched, and nothing else
-headed : (at k : ℕ) (old : List ℕ) → ((d : ℕ) → d < 4 → k ≢ at + d) → {new : List ℕ} → new ≡ (at + 3) ∷ (at + 2) ∷ (at + 1) ∷ at ∷ old → times new k ≡ times old k
+-- a header is touched, and nothing else
+headed : (at k : ℕ) (old : List ℕ) → ((d : ℕ) → d < 3 → k ≢ at + d) → {new : List ℕ} → new ≡ (at + 2) ∷ (at + 1) ∷ at ∷ old → times new k ≡ times old k
 headed at k old apart is =
     ap (λ (l : List ℕ). times l k) is
-    ∙ times_other (at + 3) k ((at + 2) ∷ (at + 1) ∷ at ∷ old) (apart 3 (omega arith))
     ∙ times_other (at + 2) k ((at + 1) ∷ at ∷ old) (apart 2 (omega arith))
     ∙ times_other (at + 1) k (at ∷ old) (apart 1 (omega arith))
     ∙ times_other at k old (λ e. apart 0 (omega arith) (omega (arith, e)))
@@ -62,7 +58,7 @@ returns-clause-touched g c k live =
     let own = c.requires.own in
     let least = (says_here (shows_state g.row.SLI c.self.invariant c.self.view_is) own.1).least in
     let free : is_free (block_at bs own.0) ≡ true = sym own.2.free ∙ c.requires.free in
-    let apart : (d : ℕ) → d < 4 → k ≢ c.args.at + d = λ d low e. elim (others_apart bs c.args.at own.0 k own.1 (free_elsewhere bs c.args.at own.0 k own.1 free (omega (arith, least)) live)) [
+    let apart : (d : ℕ) → d < 3 → k ≢ c.args.at + d = λ d low e. elim (others_apart bs c.args.at own.0 k own.1 (free_elsewhere bs c.args.at own.0 k own.1 free (omega (arith, least)) live)) [
       | inl below ↦ omega (arith, below, e)
       | inr above ↦ omega (arith, above, e, low, least)
     ] in
@@ -73,7 +69,7 @@ pub returns-clause-groups : goal.returns-clause-groups
 returns-clause-groups g c =
     let at = c.args.at in
     let old = c.self.inside.words.touched in
-    let only : (k : ℕ) → (k < at) ⊎ (at + 4 ≤ k) → times c.live_header.new.words.touched k ≡ times old k = λ k apart.
-    let differ : (d : ℕ) → d < 4 → k ≢ at + d = λ d low e. elim apart [ inl below ↦ omega (arith, below, e) | inr past ↦ omega (arith, past, e, low) ] in
+    let only : (k : ℕ) → (k < at) ⊎ (at + 3 ≤ k) → times c.live_header.new.words.touched k ≡ times old k = λ k apart.
+    let differ : (d : ℕ) → d < 3 → k ≢ at + d = λ d low e. elim apart [ inl below ↦ omega (arith, below, e) | inr past ↦ omega (arith, past, e, low) ] in
     headed at k old differ c.live_header.ensures.touched in
-    subst (λ (r : RegionState). InGroups 2 r.touched c.live_header.new.words.touched) c.self.view_is (one_row at 4 (λ k below. only k (inl below)) (λ k past. only k (inr past)))
+    subst (λ (r : RegionState). InGroups 2 r.touched c.live_header.new.words.touched) c.self.view_is (one_row at 3 (λ k below. only k (inl below)) (λ k past. only k (inr past)))

@@ -2,7 +2,7 @@
 use Rattle.tlsf_heap.proofs.Common.{◌⊎◌, ℕ, ◌+◌, ◌-◌, eqb, [], ◌∷◌, ◌++◌, take, drop, length, suc, sym, ap, ◌∙◌, refl, arith, ◌≡◌, ◌≢◌, ◌<◌, ◌≤◌, true, subst, inl, inr, Live, Free, size_of, StandsAt, is_free, block_at, site_at, RegionState, IsTagOf, image_of, times, InGroups}
 use Rattle.tlsf_heap.proofs.lemmas.words.Says.{shows_state, says_here, at_index}
 use Rattle.tlsf_heap.proofs.lemmas.words.Links.{linked_lists, marked_lists, Reshapes, holds_state}
-use Rattle.tlsf_heap.proofs.lemmas.words.Split.{stored_bytes, begins_zero, tag_here, left_split}
+use Rattle.tlsf_heap.proofs.lemmas.words.Split.{stored_bytes, tag_here, left_split}
 use Rattle.tlsf_heap.proofs.lemmas.words.Footprint.{free_elsewhere, others_apart}
 use Rattle.tlsf_heap.proofs.lemmas.words.Groups.{rows_and_word}
 use Rattle.tlsf_heap.proofs.region.Region.split.Given.{Over}
@@ -34,9 +34,6 @@ reshapes g c i stands =
 pub invariant_of-self : goal.invariant_of-self
 invariant_of-self g c = (reshapes g c c.requires.own.0 c.requires.own.1).holds
 
-pub returns-clause-first : goal.returns-clause-first
-returns-clause-first g c = begins_zero c.split_header.new.words.words c.args.at c.args.len c.split_header.ensures.change.live.first
-
 pub returns-clause-change : goal.returns-clause-change
 returns-clause-change g c i stands =
     let left = reshapes g c i stands in
@@ -63,7 +60,7 @@ returns-clause-touched g c k live =
     let free : is_free (block_at bs own.0) ≡ true = sym own.2.free ∙ c.requires.free in
     let lies = others_apart bs c.args.at own.0 k own.1 (free_elsewhere bs c.args.at own.0 k own.1 free (omega (arith, (says_here (shows_state g.row.SLI c.self.invariant c.self.view_is) own.1).least)) live) in
     let apart : (d : ℕ) → d ≤ c.args.own.size → k ≢ c.args.at + d = λ d low e. elim lies [ inl below ↦ omega (arith, below, e) | inr above ↦ omega (arith, above, e, low, own.2.size) ] in
-    c.split_header.ensures.touched k (λ e. apart 0 (omega arith) (omega (arith, e))) (apart 1 (omega (arith, c.requires.room))) (apart 2 (omega (arith, c.requires.room))) (apart 3 (omega (arith, c.requires.room)))
+    c.split_header.ensures.touched k (λ e. apart 0 (omega arith) (omega (arith, e))) (apart 1 (omega (arith, c.requires.room))) (apart 2 (omega (arith, c.requires.room)))
     (apart c.args.size (omega (arith, c.requires.room))) (λ e. apart (c.args.size + 1) (omega (arith, c.requires.room)) (omega (arith, e))) (apart c.args.own.size (omega arith))
     ∙ ap (λ (r : RegionState). times r.touched k) c.self.view_is
 
@@ -72,6 +69,6 @@ returns-clause-groups g c =
     let at = c.args.at in
     let place = at + c.args.size in
     let apart : (p n d k : ℕ) → d < n → (k < p) ⊎ (p + n ≤ k) → k ≢ p + d = λ p n d k low out e. elim out [ inl below ↦ omega (arith, below, e) | inr past ↦ omega (arith, past, e, low) ] in
-    subst (λ (r : RegionState). InGroups 5 r.touched c.split_header.new.words.touched) c.self.view_is (rows_and_word at place 4 2 (at + c.args.own.size)
-    (λ k own rest behind. c.split_header.ensures.touched k (λ e. apart at 4 0 k (omega arith) own (omega (arith, e))) (apart at 4 1 k (omega arith) own) (apart at 4 2 k (omega arith) own) (apart at 4 3 k (omega arith) own)
+    subst (λ (r : RegionState). InGroups 5 r.touched c.split_header.new.words.touched) c.self.view_is (rows_and_word at place 3 2 (at + c.args.own.size)
+    (λ k own rest behind. c.split_header.ensures.touched k (λ e. apart at 3 0 k (omega arith) own (omega (arith, e))) (apart at 3 1 k (omega arith) own) (apart at 3 2 k (omega arith) own)
     (λ e. apart place 2 0 k (omega arith) rest (omega (arith, e))) (apart place 2 1 k (omega arith) rest) behind))

@@ -60,4 +60,4 @@ returns-clause-touched g c k o =
     ∙ ap (λ (r : RegionState). times r.touched k) c.self.view_is
 
 pub returns-clause-groups : goal.returns-clause-groups
-returns-clause-groups g c = subst (λ (r : RegionState). InGroups (groups_of c.args.n) r.touched c.zero.new.self.touched) c.self.view_is (one_row (c.args.at + 4) c.args.n c.zero.ensures.touched_before c.zero.ensures.touched_behind)
+returns-clause-groups g c = subst (λ (r : RegionState). InGroups (groups_of c.args.n) r.touched c.zero.new.self.touched) c.self.view_is (one_row (c.args.at + 3) c.args.n c.zero.ensures.touched_before c.zero.ensures.touched_behind)

@@ -8,7 +8,7 @@ use Rattle.tlsf_heap.proofs.lemmas.blocks.Used.{used_site, free_used}
 use Rattle.tlsf_heap.specs.CarvedUnset.{CarvedUnset}
 use Rattle.tlsf_heap.specs.WordsInUse.{words_used}
 use Rattle.tlsf_words.proofs.Touching.{more_groups, groups_then}
-use Rattle.tlsf_heap.proofs.fitting.give_unset.Goals as goal
+use Rattle.tlsf_heap.proofs.fitting.give.Goals as goal
 
 pub grant-requires : goal.grant-requires
 grant-requires g c =
@@ -66,8 +66,8 @@ returns-then-left-lt4-clause-carved g c i stands =
     let free = c.requires.free in
     let t = is_out g.row.SLI {old = c.args.region.now} free c.requires.own c.requires.sized c.requires.listed c.requires.stamped in
     let small : c.args.own.size < c.args.words + 4 = omega (arith, c.if-left-lt4.true, c.rest_of-rest.ensures.left) in
-    subst (λ (j : ℕ). CarvedUnset g.row.SLI c.args.region.now c.grant.new.self (site_at bs j) c.args.at c.args.words c.args.serial c.args.len 16) (one_index g.row.SLI bs c.args.at free.0 i c.requires.sized free.1 stands)
-    (by_grant g.row.SLI t c.args.words c.args.len c.grant.ensures.first small c.grant.ensures.change)
+    subst (λ (j : ℕ). CarvedUnset g.row.SLI c.args.region.now c.grant.new.self (site_at bs j) c.args.at c.args.words c.args.serial c.args.len 15) (one_index g.row.SLI bs c.args.at free.0 i c.requires.sized free.1 stands)
+    (by_grant g.row.SLI t c.args.words c.args.len small c.grant.ensures.change)
 
 -- the block that was free had no word in use
 pub returns-then-left-lt4-clause-used : goal.returns-then-left-lt4-clause-used
@@ -90,8 +90,8 @@ returns-clause-carved g c i stands =
     let t = is_out g.row.SLI {old = c.args.region.now} free c.requires.own c.requires.sized c.requires.listed c.requires.stamped in
     let split = c.split.new.self.stored in
     let large : c.args.words + 4 ≤ c.args.own.size = omega (arith, c.if-left-lt4.false, c.rest_of-rest.ensures.left) in
-    subst (λ (j : ℕ). CarvedUnset g.row.SLI c.args.region.now c.push.new.self (site_at bs j) c.args.at c.args.words c.args.serial c.args.len 16) (one_index g.row.SLI bs c.args.at free.0 i c.requires.sized free.1 stands)
-    (by_split g.row.SLI t c.args.words c.args.len (lying split c.args.at c.args.len) large c.split.ensures.change (length-bytes_in split.words (payload_byte c.args.at 0) c.args.len) c.split.ensures.first
+    subst (λ (j : ℕ). CarvedUnset g.row.SLI c.args.region.now c.push.new.self (site_at bs j) c.args.at c.args.words c.args.serial c.args.len 15) (one_index g.row.SLI bs c.args.at free.0 i c.requires.sized free.1 stands)
+    (by_split g.row.SLI t c.args.words c.args.len (lying split c.args.at c.args.len) large c.split.ensures.change (length-bytes_in split.words (payload_byte c.args.at 0) c.args.len)
     (c.class_of.ensures ∙ ap (class_of g.row.SLI) c.rest_of-rest.ensures.left) c.push.ensures)
 
 -- ---- the payloads of live blocks
