@@ -11,7 +11,7 @@ pub use Rattle.std.specs.Option.{option_map_or, option_map}
 pub use Rattle.tlsf_class.specs.Classes.{IsLevel, most_words}
 unfoldable pub use Rattle.tlsf_class.specs.Classes.{low, class_of, classes, search_of}
 pub use Rattle.tlsf_heap.specs.Blocks.{HeapState, want, Block, Free, Live, words_in, bytes_of, size_of, is_free, serials}
-pub use Rattle.tlsf_heap.specs.Calls.{opened, Allocate, Release, Call, Write, run, answered, Read, Resize, before_free, has_serial, Outcome, carved, past_free, refused, Allocated, first_free, named, refitted, with_bytes, is_named, is_worn, last_free, last_tick, overwritten, released, written, Released, Resized, allocated, allocated_words, fitted, Written, allocated_at, has_bytes, released_at, Answer, written_at, Got, coalesced, read_at, read_of, resized, resized_at, room_of, ticked}
+pub use Rattle.tlsf_heap.specs.Calls.{opened, Allocate, Release, Call, Write, run, answered, Read, Resize, before_free, has_serial, Outcome, carved, past_free, refused, Allocated, first_free, named, refitted, with_bytes, is_named, is_worn, last_free, last_tick, overwritten, released, written, Released, Resized, allocated, allocated_words, fitted, Written, allocated_at, has_bytes, released_at, Answer, written_at, coalesced, read_at, read_of}
 pub use Rattle.tlsf_heap.specs.Chosen.{NoneFits}
 pub use Rattle.tlsf_heap.specs.Given.{payload_words_at, payload_words_given}
 pub use Rattle.tlsf_heap.specs.GoodFit.{Site, is_fit, fits, place_of, choice, sites_behind, block_at, is_as_good}
@@ -19,7 +19,7 @@ pub use Rattle.tlsf_heap.specs.Lawful.{IsLawful, HasRoom, IsRegion, FreeBlocksAr
 pub use Rattle.tlsf_heap.specs.Reports.{live_among, free_among, IsGrant}
 pub use Rattle.tlsf_heap.specs.declared.name.Name.{Name}
 pub use Rattle.tlsf_heap.specs.declared.refusal.Refusal.{Refusal}
-pub use Rattle.tlsf_heap.specs.declared.refusal.Refusal.TheVariants.{NoFit, Worn, Foreign, Range, NoRoom, Stale}
+pub use Rattle.tlsf_heap.specs.declared.refusal.Refusal.TheVariants.{NoFit, Worn, Foreign, Range}
 pub use Rattle.tlsf_heap.specs.ledger.Ledgers.{IsLedgered, SameLedger}
 pub use Rattle.tlsf_pool.specs.declared.kind.Kind.{Kind}
 pub use Rattle.tlsf_pool.specs.declared.pools.pool_refusal.PoolRefusal.{PoolRefusal}
@@ -34,8 +34,8 @@ pub use Rattle.tlsf_pool.specs.laws.MixedSizes.{IsModest, mixed_words, HasRoomFo
 pub use Rattle.tlsf_pool.specs.laws.OneLarge.{longest_of, OneLargeSuffices, ResizesNone, ThousandsAndOne, one_large_words, scattered_words}
 pub use Rattle.tlsf_pool.specs.laws.Room.{sure, live_count, IsSnug, free_words, BlocksAreSnug, RoomIsTight, SumSuffices, wanted_words}
 pub use Rattle.tlsf_pool.specs.pools.Bounds.{IsPool, Bounds, pool_allocated, or_worn, TellsBounds, answered_within}
-pub use Rattle.tlsf_pool.specs.pools.Parts.{PoolsState, Stay, rows_in, table_of, named_in, no_part, part_at, ArePools, part_in, part_named, AreNew, HasRow, held_by, held_in, part_of, Allocates, IsNew, OnlyPart, Releases, memory_of, rows_before, IsRowOf, counts_at}
+pub use Rattle.tlsf_pool.specs.pools.Parts.{PoolsState, Stay, rows_in, table_of, named_in, no_part, part_at, ArePools, part_in, part_named, AreNew, HasRow, held_by, held_in, part_of, Allocates, IsNew, memory_of, rows_before, IsRowOf, counts_at}
 pub use Rattle.tlsf_pool.specs.pools.Tables.{TableRows, row_len, row_of, TableState, IsTable, table_allocated, HoldsOneMore, IsTabled, lengths_in, AreAllReached, HasPlace, held_of, most_at, IsFull, TableExtents, CountsOneMore, TellsTable, answered_by_table, answered_in}
 pub use Rattle.tlsf_pool.specs.sizes.Cheapest.{AreSmall, AreBest, HasFirst, IsBest, IsBestAmong, cheaper, with_first}
-pub use Rattle.tlsf_pool.specs.sizes.Rising.{Rises, len_at, IsFirstFall}
+pub use Rattle.tlsf_pool.specs.sizes.Rising.{Rises, len_at}
 pub use Rattle.tlsf_pool.specs.sizes.Splits.{parts_of, HasWords, joined, IsPart, cut_by, HasAtMost, IsCut, IsLeast, IsLeastAmong, IsNoLater, CutAlike, words_together}

@@ -16,7 +16,7 @@
 --   OneLargeCalls: what each call leaves of the hole for one large block
 --   Orders: the order of the kinds of a table doesn't change its words
 --   PlannedCalls: what each call leaves of the bounds of a table of kinds
---   Refits: what a resize comes to, by its cases
+--   Refits: what a resize leaves of its block, by its cases
 --   Reserves: the greatest hole, a large block in front of it counted with it
 --   Snug: no live block has four words that it doesn't want
 --   Occupied: names by the sites of their blocks

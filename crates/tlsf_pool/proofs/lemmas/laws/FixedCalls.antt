@@ -2,13 +2,12 @@
 use Rattle.tlsf_pool.proofs.Common.{◌≡◌, ℕ, zero, suc, ◌+◌, ◌*◌, ◌<◌, ◌≤◌, List, [], ◌∷◌, length, replicate, Result, Ok, Err, IsOk, refl, sym, ap, ◌∙◌, subst, arith, AllByRecursion, false≢true, IsLevel, most_words, HeapState, want, fits, IsLawful, IsRegion, Call, Allocate, Release, Write, Resize, Read, Answer, Allocated, Resized, allocated_words, answered, opened, run, last_tick, Name, Refusal, NoFit, live_count, sure, held_after, IsModest, AreModest, HasRoomFor, IsServed, HasFixedSize, answered_fixed, run_fixed, fixed_words, FixedSizeSuffices, FixedSizeServes, FixedSizeIsExact, WantsWords, OneLengthSuffices}
 use Rattle.tlsf_heap.specs.Calls.{resized_words}
 use Rattle.tlsf_heap.proofs.lemmas.blocks.Lawful.{opened_lawful}
-use Rattle.tlsf_heap.proofs.lemmas.calls.Outcomes.{by_allocated_words, by_released, by_resized_words, by_written, gives_words, lawful_allocated_words, lawful_resized_words, lawful_run, resizes}
+use Rattle.tlsf_heap.proofs.lemmas.calls.Outcomes.{by_allocated_words, by_released, by_resized_words, by_written, lawful_allocated_words, lawful_resized_words, lawful_run}
 use Rattle.tlsf_heap.proofs.lemmas.laws.NoFit.{no_fit_words, ok_words}
 use Rattle.tlsf_pool.proofs.lemmas.laws.Around.{words_kept}
 use Rattle.tlsf_pool.proofs.lemmas.laws.FixedSize.{finds_fixed, fixed_kept, live_least, new_fixed, sure_again, sure_region}
 use Rattle.tlsf_pool.proofs.lemmas.laws.FreeRoom.{sure_enough, wants}
-use Rattle.tlsf_pool.proofs.lemmas.laws.Held.{one, counted, held_is}
-use Rattle.tlsf_pool.proofs.lemmas.laws.Loads.{load_given_words, load_resized_words}
+use Rattle.tlsf_pool.proofs.lemmas.laws.Held.{held_given, held_is, held_resized}
 
 -- ---- each call keeps the size
 
@@ -33,12 +32,10 @@ wants_kept sli level s h call wanted fixed = subst (λ (step : Answer × HeapSta
 -- ---- as many blocks are live as are held
 
 pub held_fixed : (sli s : ℕ) (h : HeapState) (call : Call) → live_count (answered_fixed sli s h call).1 ≡ held_after (live_count h) call (answered_fixed sli s h call).0
-held_fixed sli s h (Allocate n) = by_allocated_words sli (λ o. live_count o.heap ≡ held_after (live_count h) (Allocate n) (Allocated o.answer)) h s n (λ why. refl) (λ t site fit.
-    omega (arith, load_given_words sli one h t s n site fit, counted h.blocks, counted (gives_words h s n t).heap.blocks))
+held_fixed sli s h (Allocate n) = held_given sli h s n
 held_fixed sli s h (Release name) = held_is sli h (Release name)
 held_fixed sli s h (Write name at bytes) = held_is sli h (Write name at bytes)
-held_fixed sli s h (Resize name len) = by_resized_words (λ o. live_count o.heap ≡ held_after (live_count h) (Resize name len) (Resized o.answer)) h name s len (λ why. refl) (λ t own site is room.
-    omega (arith, load_resized_words one h t name.at name.serial s len site is, counted h.blocks, counted (resizes h s len t).heap.blocks))
+held_fixed sli s h (Resize name len) = held_resized h name s len
 held_fixed sli s h (Read name at n) = refl
 
 -- ---- what each call leaves

@@ -1,18 +1,19 @@
 -- Blocks of a fixed size: each begins at a multiple of it, so each free block but the last one serves.
-use Rattle.tlsf_pool.proofs.Common.{◌≡◌, ℕ, ◌+◌, ◌-◌, ◌*◌, ◌<◌, ◌≤◌, true, List, [], ◌∷◌, ◌++◌, length, refl, sym, ap, ◌∙◌, subst, inl, inr, arith, append_assoc, AllByRecursion, option_map_or, mul-le-mul_right, cases_lt, false≢true, IsLevel, most_words, low, classes, search_of, Block, Live, Free, HeapState, size_of, words_in, bytes_of, Site, fits, is_fit, IsLawful, HasRoom, allocated_words, released, written, carved, past_free, before_free, first_free, last_free, with_bytes, has_serial, refitted, overwritten, live_among, Name, live_count, sure, IsMultiple, BeginAtMultiples, IsFixedSize, HasFixedSize, SureIsSure, NewHasFixedSize, FixedSizeIsKept, FixedSizeFindsRoom, FixedSizeIsTight, IsWhole, BlocksAreWhole}
+use Rattle.tlsf_pool.proofs.Common.{◌≡◌, ℕ, ◌+◌, ◌-◌, ◌*◌, ◌<◌, ◌≤◌, true, List, [], ◌∷◌, ◌++◌, length, refl, sym, ap, ◌∙◌, subst, inl, inr, arith, append_assoc, AllByRecursion, option_map_or, mul-le-mul_right, cases_lt, false≢true, IsLevel, most_words, low, classes, search_of, Block, Live, Free, HeapState, size_of, words_in, bytes_of, Site, fits, IsLawful, HasRoom, allocated_words, released, written, carved, past_free, before_free, first_free, last_free, with_bytes, has_serial, refitted, overwritten, live_among, Name, live_count, sure, IsMultiple, BeginAtMultiples, IsFixedSize, HasFixedSize, SureIsSure, NewHasFixedSize, FixedSizeIsKept, FixedSizeFindsRoom, FixedSizeIsTight, IsWhole, BlocksAreWhole}
 use Rattle.tlsf_class.proofs.TwoLevels.{by_level}
 use Rattle.tlsf_class.proofs.Lows.{low-rises, low-rises_or_same, low-first}
-use Rattle.tlsf_class.proofs.ClassOfSize.{IsSearchOf, search_of-is, search_of-above, search_of-between, le_from_serves}
+use Rattle.tlsf_class.proofs.ClassOfSize.{IsSearchOf, search_of-is, search_of-above, search_of-between}
 use Rattle.tlsf_heap.specs.Calls.{resized_words}
 use Rattle.tlsf_heap.proofs.lemmas.blocks.Coalesce.{by_last}
-use Rattle.tlsf_heap.proofs.lemmas.blocks.Find.{and_left, and_right}
-use Rattle.tlsf_heap.proofs.lemmas.blocks.Lawful.{all_append}
+use Rattle.tlsf_heap.proofs.lemmas.blocks.Find.{and_left}
 use Rattle.tlsf_heap.proofs.lemmas.blocks.Replace.{carved_small, carved_large}
 use Rattle.tlsf_heap.proofs.lemmas.calls.Outcomes.{IsSiteOf, by_allocated_words, by_released, by_resized_words, by_written}
 use Rattle.tlsf_heap.proofs.lemmas.laws.NoFit.{no_fit_words}
-use Rattle.tlsf_pool.proofs.lemmas.laws.Around.{past_all, before_all, around_site}
+use Rattle.tlsf_pool.proofs.lemmas.laws.Around.{Suits, all_allocated, all_released, all_resized, all_written}
 use Rattle.tlsf_pool.proofs.lemmas.laws.FreeRoom.{IsHole, holes_where_none, sure_is}
 use Rattle.tlsf_pool.proofs.lemmas.laws.Refits.{by_refit}
+use Rattle.tlsf_heap.proofs.lemmas.words.Bytes.{size_of-with_bytes}
+use Rattle.tlsf_heap.proofs.lemmas.calls.Allocate.{fits_size}
 
 -- ---- the least size of a class
 
@@ -153,86 +154,62 @@ module _ (s : ℕ) where
       subst (λ (k : ℕ). BeginAtMultiples s 0 (before_free t.before ++ Free k tick ∷ past_free t.after)) sum
       (begin_before 0 merged tick t.before (past_free t.after) (multiple_at s place (0 + place) (omega arith) a.here) a.front rest)
 
-  size_with : (b : Block) (xs : List ℕ) → size_of (with_bytes b xs) ≡ size_of b
-  size_with (Live m u ys) xs = refl
-  size_with (Free m u) xs = refl
-
   pub begin_written : (h : HeapState) (t : Site) (new : List ℕ) → IsSiteOf h.blocks t → BeginAtMultiples s 0 h.blocks → BeginAtMultiples s 0 (t.before ++ with_bytes t.block new ∷ t.after)
   begin_written h t new site all =
       let a = around h t site all in
       put h t (with_bytes t.block new ∷ t.after) site all
-      (a.here, begin_at s (words_in t.before + size_of t.block) (words_in t.before + size_of (with_bytes t.block new)) t.after (omega (arith, size_with t.block new)) a.back)
+      (a.here, begin_at s (words_in t.before + size_of t.block) (words_in t.before + size_of (with_bytes t.block new)) t.after (omega (arith, size_of-with_bytes t.block new)) a.back)
 
   -- ---- and of sizes
-
-  abbrev AreSizes : List Block → Type 0
-  AreSizes bs = AllByRecursion (IsFixedSize s) bs
 
   free_any : (m u : ℕ) → IsFixedSize s (Free m u)
   free_any m u f = absurd (false≢true (sym f))
 
-  sizes_carved : (size tick len : ℕ) → s ≤ size → AreSizes (carved size s tick len)
-  sizes_carved size tick len enough = elim (cases_lt size (s + 4)) [
-    | inl small ↦ subst AreSizes (sym (carved_small size s tick len small)) ((λ _. (enough, omega (arith, small))), tt)
-    | inr large ↦ subst AreSizes (sym (carved_large size s tick len large)) ((λ _. (omega arith, omega arith)), (free_any (size - s) tick, tt))
-  ]
+  sizes_suit : (len : ℕ) → Suits (IsFixedSize s) s s len
+  sizes_suit len m t xs enough few long = λ _. (enough, few)
 
-  sizes_with : (b : Block) (xs : List ℕ) → IsFixedSize s b → IsFixedSize s (with_bytes b xs)
-  sizes_with (Live m u ys) xs h = h
-  sizes_with (Free m u) xs h = h
-
-  sizes_refitted : (tick len serial : ℕ) (b : Block) (bs : List Block) → s ≤ size_of b + first_free bs → has_serial serial b ≡ true → AreSizes bs → AreSizes (refitted tick s len b bs)
-  sizes_refitted tick len serial (Free m u) bs room e all = absurd (false≢true e)
-  sizes_refitted tick len serial (Live m u xs) bs room e all =
-      let past = past_all (IsFixedSize s) bs all in
-      by_refit AreSizes tick s len m u xs bs (λ enough few. ((λ _. (enough, omega (arith, few))), all))
-      (λ large. ((λ _. (omega arith, omega arith)), (free_any (m + first_free bs - s) tick, past)))
-      (λ small. ((λ _. (room, omega (arith, small))), past))
+  sizes_with : (b : Block) (xs : List ℕ) → length xs ≡ length (bytes_of b) → IsFixedSize s b → IsFixedSize s (with_bytes b xs)
+  sizes_with (Live m u ys) xs e h = h
+  sizes_with (Free m u) xs e h = h
 
 pub new_fixed : NewHasFixedSize
 new_fixed s id words first = record { sizes = (free_any s words first, tt); places = ((0, omega arith), tt) }
-
--- what a fit leaves
-enough_fit : (sli : ℕ) (level : IsLevel sli) (s : ℕ) (b : Block) → is_fit sli s b ≡ true → s ≤ size_of b
-enough_fit sli level s b fit = le_from_serves sli level s (size_of b) (and_right _ _ fit)
 
 module _ (sli : ℕ) (level : IsLevel sli) (s : ℕ) (h : HeapState) (fixed : HasFixedSize s h) where
   abbrev Of : HeapState → Type 0
   Of = HasFixedSize s
 
   on_allocate : (len : ℕ) → Of (allocated_words sli h s len).heap
-  on_allocate len = by_allocated_words sli (λ o. Of o.heap) h s len (λ why. fixed) (λ t site fit.
-      let a = around_site (IsFixedSize s) h t site fixed.sizes in record {
-        sizes = all_append (IsFixedSize s) (t.before ++ carved (size_of t.block) s h.tick len) t.after
-            (all_append (IsFixedSize s) t.before (carved (size_of t.block) s h.tick len) a.0 (sizes_carved s (size_of t.block) h.tick len (enough_fit sli level s t.block fit))) a.2;
-        places = begin_given s h.tick len h t site fixed.places;
-      })
+  on_allocate len = record {
+    sizes = all_allocated (IsFixedSize s) (free_any s) sli s h s len (fits_size sli level s) (omega arith) (sizes_suit s len) fixed.sizes;
+    places = by_allocated_words sli (λ o. BeginAtMultiples s 0 o.heap.blocks) h s len (λ why. fixed.places) (λ t site fit. begin_given s h.tick len h t site fixed.places);
+  }
 
   on_release : (name : Name) → Of (released h name).heap
-  on_release name = by_released (λ o. Of o.heap) h name (λ why. fixed) (λ t own site is.
-      let a = around_site (IsFixedSize s) h t site fixed.sizes in record {
-        sizes = all_append (IsFixedSize s) (before_free t.before) _ (before_all (IsFixedSize s) t.before a.0) ((λ f. absurd (false≢true (sym f))), past_all (IsFixedSize s) t.after a.2);
-        places = begin_released s h t h.tick site fixed.places;
-      })
+  on_release name = record {
+    sizes = all_released (IsFixedSize s) (free_any s) h name fixed.sizes;
+    places = by_released (λ o. BeginAtMultiples s 0 o.heap.blocks) h name (λ why. fixed.places) (λ t own site is. begin_released s h t h.tick site fixed.places);
+  }
 
   on_write : (name : Name) (at : ℕ) (bytes : List ℕ) → Of (written h name at bytes).heap
-  on_write name at bytes = by_written (λ o. Of o.heap) h name at bytes (λ why. fixed) (λ t site has.
-      let a = around_site (IsFixedSize s) h t site fixed.sizes in record {
-        sizes = all_append (IsFixedSize s) t.before _ a.0 (sizes_with s t.block _ a.1, a.2);
-        places = begin_written s h t (overwritten (bytes_of t.block) at bytes) site fixed.places;
-      })
+  on_write name at bytes = record {
+    sizes = all_written (IsFixedSize s) (free_any s) (sizes_with s) h name at bytes fixed.sizes;
+    places = by_written (λ o. BeginAtMultiples s 0 o.heap.blocks) h name at bytes (λ why. fixed.places) (λ t site has. begin_written s h t (overwritten (bytes_of t.block) at bytes) site fixed.places);
+  }
 
   on_resize : (name : Name) (len : ℕ) → Of (resized_words h name s len).heap
-  on_resize name len = by_resized_words (λ o. Of o.heap) h name s len (λ why. fixed) (λ t own site is room.
-      let a = around_site (IsFixedSize s) h t site fixed.sizes in record {
-        sizes = all_append (IsFixedSize s) t.before _ a.0 (sizes_refitted s h.tick len name.serial t.block t.after room (and_left _ _ is) a.2);
-        places = begin_resized s h.tick len name.serial h t (and_left _ _ is) site fixed.places;
-      })
+  on_resize name len = record {
+    sizes = all_resized (IsFixedSize s) (free_any s) h name s len (sizes_suit s len) fixed.sizes;
+    places = by_resized_words (λ o. BeginAtMultiples s 0 o.heap.blocks) h name s len (λ why. fixed.places) (λ t own site is room. begin_resized s h.tick len name.serial h t (and_left _ _ is) site fixed.places);
+  }
 
 pub fixed_kept : (sli : ℕ) (level : IsLevel sli) → FixedSizeIsKept sli
 fixed_kept sli level s h fixed = record { allocate = on_allocate sli level s h fixed; release = on_release sli level s h fixed; write = on_write sli level s h fixed; resize = on_resize sli level s h fixed }
 
 -- ---- how many blocks there are
+
+next : (a b : ℕ) → a < b → a + 1 ≤ b
+next a b h = omega (arith, h)
 
 -- between two multiples there are no words or at least s, and fewer than 2 * s are just s
 none_between : (s a b m : ℕ) → a * s + m ≡ b * s → m < s → m ≡ 0
@@ -240,9 +217,6 @@ none_between s a b m is few = elim (cases_lt a b) [
   | inl more ↦ let most = mul-le-mul_right s (next a b more) in absurd (omega (arith, most, is, few))
   | inr less ↦ let most = mul-le-mul_right s less in omega (arith, most, is)
 ]
-  where
-    next : (a b : ℕ) → a < b → a + 1 ≤ b
-    next a b h = omega (arith, h)
 
 one_between : (s a b m : ℕ) → a * s + m ≡ b * s → s ≤ m → m < s + s → m ≡ s
 one_between s a b m is enough few =
@@ -257,8 +231,7 @@ packed s i (Free m u ∷ []) four begin sizes rooms holes = let few = holes.0 re
 packed s i (Live m u xs ∷ b ∷ bs) four begin sizes rooms holes =
     let size = sizes.0 refl in
     let same : m ≡ s = one_between s begin.0.0 begin.1.0.0 m (omega (arith, begin.0.1, begin.1.0.1)) size.0 (omega (arith, four, size.1)) in
-    let rest = packed s (i + m) (b ∷ bs) four begin.1 sizes.1 rooms.1 holes.1 in
-    omega (arith, same, rest)
+    omega (arith, same, packed s (i + m) (b ∷ bs) four begin.1 sizes.1 rooms.1 holes.1)
 packed s i (Free m u ∷ b ∷ bs) four begin sizes rooms holes =
     let few = holes.0 refl in
     let none : m ≡ 0 = none_between s begin.0.0 begin.1.0.0 m (omega (arith, begin.0.1, begin.1.0.1)) (omega (arith, four, few)) in
@@ -271,11 +244,7 @@ module _ (sli : ℕ) (level : IsLevel sli) (n s most : ℕ) (h : HeapState) wher
       let four = (sure_region sli level (sure sli n) (sure_again sli level n class)).0 in
       let holes = subst (λ (k : ℕ). AllByRecursion (IsHole (k - 1)) h.blocks) is (holes_where_none sli level n class h.blocks lawful.rooms none) in
       let full = packed s 0 h.blocks (omega (arith, four, is)) fixed.places fixed.sizes lawful.rooms holes in
-      let more = mul-le-mul_right s (next (live_count h) most few) in
-      omega (arith, full, more, enough, lawful.whole)
-    where
-      next : (a b : ℕ) → a < b → a + 1 ≤ b
-      next a b h = omega (arith, h)
+      omega (arith, full, mul-le-mul_right s (next (live_count h) most few), enough, lawful.whole)
 
 pub finds_fixed : (sli : ℕ) (level : IsLevel sli) (s most : ℕ) (h : HeapState) → IsLawful h → HasFixedSize s h → sure sli s ≡ s → most * s ≤ h.words → live_count h < most → ¬ (fits sli s h.blocks ≡ [])
 finds_fixed sli level s most h lawful fixed is = finds_sure sli level s s most h lawful fixed (sure_region sli level s is).1 is

@@ -25,8 +25,7 @@ pub fewer_mixed : (sli : ℕ) (level : IsLevel sli) → FewerThanMixedSizes sli
 fewer_mixed sli level most len region = elim (cases_lt 8 len) [
   | inl more ↦
       let s : ℕ = sure sli (want len) in
-      let some = sure_enough sli level (want len) region in
-      let same : s ≡ s - 1 + 1 = omega (arith, some) in
+      let same : s ≡ s - 1 + 1 = omega (arith, sure_enough sli level (want len) region) in
       let words : most * s ≤ (most - 1) * (want len + 3) + most * (s - 1) + 1 = subst (λ (k : ℕ). most * k ≤ (most - 1) * (want len + 3) + most * (s - 1) + 1) (sym same) (mixed_more most (want len) (s - 1)) in
       omega (arith, words, mixed_of_more sli most len more)
   | inr short ↦ let four : fixed_words sli most len ≡ max 4 (most * 4) = ap (λ (k : ℕ). max 4 (most * k)) (short_sure sli level len short) in omega (arith, four, mixed_of_fours sli most len short)

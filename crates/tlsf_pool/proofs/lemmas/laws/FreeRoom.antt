@@ -56,8 +56,7 @@ holes_where_none sli level n region bs rooms none = holes_below sli level n regi
 pub finds_room : (sli : ℕ) (level : IsLevel sli) (h : HeapState) (len : ℕ) → IsLawful h → want len ≤ most_words sli → (live_count h + 1) * (sure sli (want len) - 1) < free_words h → ¬ (fits sli (want len) h.blocks ≡ [])
 finds_room sli level h len lawful region more none =
     let small = holes_sum (sure sli (want len) - 1) h.blocks (holes_where_none sli level (want len) region h.blocks lawful.rooms none) in
-    let few = mul-le-mul_right (sure sli (want len) - 1) (few_free h.blocks lawful.apart) in
-    omega (arith, small, few, more)
+    omega (arith, small, mul-le-mul_right (sure sli (want len) - 1) (few_free h.blocks lawful.apart), more)
 
 -- a request that is no greater than the least size of another has no higher one
 pub sure_upto : (sli : ℕ) (level : IsLevel sli) (n m : ℕ) → n ≤ sure sli m → n ≤ most_words sli → m ≤ most_words sli → sure sli n ≤ sure sli m

@@ -1,8 +1,8 @@
 -- As many blocks are live as are held.
-use Rattle.tlsf_pool.proofs.Common.{◌≡◌, ℕ, List, [], ◌∷◌, length, refl, ap, ◌∙◌, arith, Block, Live, Free, HeapState, Call, Allocate, Release, Write, Resize, Read, Allocated, Released, Written, Resized, answered, opened, run, live_among, live_count, held_after, held_after_all, HoldsWhatIsLive}
-use Rattle.tlsf_heap.proofs.lemmas.calls.Outcomes.{by_allocated, by_released, by_written, gives, takes, writes}
+use Rattle.tlsf_pool.proofs.Common.{◌≡◌, ℕ, List, [], ◌∷◌, length, refl, ap, ◌∙◌, arith, Block, Live, Free, HeapState, want, Call, Allocate, Release, Write, Resize, Read, Allocated, Released, Written, answered, opened, run, live_among, live_count, held_after, held_after_all, HoldsWhatIsLive, Name, allocated_words}
+use Rattle.tlsf_heap.proofs.lemmas.calls.Outcomes.{by_allocated_words, by_released, by_resized_words, by_written, gives_words, resizes, takes, writes}
 use Rattle.tlsf_pool.proofs.lemmas.laws.Loads.{load, load_given, load_taken, load_resized, load_written}
-use Rattle.tlsf_pool.proofs.lemmas.laws.Refits.{by_resize, refits}
+use Rattle.tlsf_heap.specs.Calls.{resized_words}
 
 -- one for each live block
 abbrev pub one : ℕ → ℕ
@@ -13,15 +13,22 @@ counted [] = refl
 counted (Live m s xs ∷ bs) = let e = counted bs in omega arith
 counted (Free m s ∷ bs) = counted bs
 
+-- for whatever words a request and a resize are
+pub held_given : (sli : ℕ) (h : HeapState) (n len : ℕ) → live_count (allocated_words sli h n len).heap ≡ held_after (live_count h) (Allocate len) (Allocated (allocated_words sli h n len).answer)
+held_given sli h n len = by_allocated_words sli (λ o. live_count o.heap ≡ held_after (live_count h) (Allocate len) (Allocated o.answer)) h n len (λ why. refl) (λ s site fit.
+    omega (arith, load_given sli one h s n len site fit, counted h.blocks, counted (gives_words h n len s).heap.blocks))
+
+pub held_resized : (h : HeapState) (name : Name) (n len : ℕ) → live_count (resized_words h name n len).heap ≡ live_count h
+held_resized h name n len = by_resized_words (λ o. live_count o.heap ≡ live_count h) h name n len (λ why. refl) (λ s own site is room.
+    omega (arith, load_resized one h s name.at name.serial n len site is, counted h.blocks, counted (resizes h n len s).heap.blocks))
+
 pub held_is : (sli : ℕ) (h : HeapState) (call : Call) → live_count (answered sli h call).1 ≡ held_after (live_count h) call (answered sli h call).0
-held_is sli h (Allocate n) = by_allocated sli (λ o. live_count o.heap ≡ held_after (live_count h) (Allocate n) (Allocated o.answer)) h n (λ why. refl) (λ s site fit.
-    omega (arith, load_given sli one h s n site fit, counted h.blocks, counted (gives h n s).heap.blocks))
+held_is sli h (Allocate n) = held_given sli h (want n) n
 held_is sli h (Release name) = by_released (λ o. live_count o.heap ≡ held_after (live_count h) (Release name) (Released o.answer)) h name (λ why. refl) (λ s own site is.
     omega (arith, load_taken one h s name.at name.serial site is, counted h.blocks, counted (takes h s).heap.blocks))
 held_is sli h (Write name at bytes) = by_written (λ o. live_count o.heap ≡ held_after (live_count h) (Write name at bytes) (Written o.answer)) h name at bytes (λ why. refl) (λ s site has.
     omega (arith, load_written one h s at bytes site has, counted h.blocks, counted (writes h at bytes s).heap.blocks))
-held_is sli h (Resize name len) = by_resize (λ o. live_count o.heap ≡ held_after (live_count h) (Resize name len) (Resized o.answer)) h name len (λ why. refl) (λ s own e site is.
-    omega (arith, load_resized one h s name.at name.serial len site is, counted h.blocks, counted (refits h len s).heap.blocks))
+held_is sli h (Resize name len) = held_resized h name (want len) len
 held_is sli h (Read name at n) = refl
 
 held_through : (sli : ℕ) (h : HeapState) (calls : List Call) → live_count (run sli h calls).1 ≡ held_after_all (live_count h) calls (run sli h calls).0

@@ -1,14 +1,14 @@
 -- An inventory agrees with the heap: it has the length of each live block, under its name.
-use Rattle.tlsf_pool.proofs.Common.{◌≡◌, ℕ, ◌+◌, Bool, true, false, not, cond, eqb, List, [], ◌∷◌, length, replicate, filter, Option, Some, None, refl, sym, ap, ◌∙◌, subst, arith, ⊤, option_map, length-replicate, eqb-true, false≢true, IsLevel, HeapState, bytes_of, want, Site, place_of, is_fit, IsLawful, Outcome, Call, Allocate, Release, Write, Resize, Read, Allocated, Released, Written, Resized, refused, is_worn, named, is_named, released_at, fitted, overwritten, has_bytes, written_at, answered, opened, run, Name, Worn, Foreign, Range, live_count, contents, is_same, Inventory, lengths, with_length, inventory_after, inventory_after_all, InventoryIsLive}
+use Rattle.tlsf_pool.proofs.Common.{◌≡◌, ℕ, ◌+◌, Bool, true, false, not, cond, List, [], ◌∷◌, length, replicate, filter, Option, Some, None, refl, sym, ap, ◌∙◌, subst, arith, ⊤, option_map, length-replicate, false≢true, IsLevel, HeapState, bytes_of, want, Site, place_of, is_fit, IsLawful, Call, Allocate, Release, Write, Resize, Read, Allocated, Released, Written, Resized, is_named, fitted, overwritten, has_bytes, answered, opened, run, Name, live_count, contents, is_same, Inventory, lengths, with_length, inventory_after, inventory_after_all, InventoryIsLive}
 use Rattle.tlsf_heap.proofs.lemmas.calls.Write.{length-overwritten, range_fits}
-use Rattle.tlsf_heap.proofs.lemmas.calls.Outcomes.{by_test, IsSiteOf, named_site, gives, by_allocated, takes, writes, lawful_run}
+use Rattle.tlsf_heap.proofs.lemmas.calls.Outcomes.{by_test, IsSiteOf, gives, by_allocated, takes, by_released, resizes, by_resized_words, writes, by_written_named, lawful_run}
 use Rattle.tlsf_heap.proofs.lemmas.blocks.Lawful.{opened_lawful}
 use Rattle.tlsf_heap.proofs.lemmas.words.NewBytes.{length-fitted}
 use Rattle.tlsf_pool.proofs.lemmas.laws.Names.{same_is, same_flip}
 use Rattle.tlsf_pool.proofs.lemmas.laws.Loads.{load, load_given, load_taken, load_resized, load_written}
 use Rattle.tlsf_pool.proofs.lemmas.laws.Held.{one, counted}
 use Rattle.tlsf_pool.proofs.lemmas.laws.Looks.{found_bytes, given_name, taken_name, resized_name, written_name, fresh, new_empty}
-use Rattle.tlsf_pool.proofs.lemmas.laws.Refits.{by_resize, refits}
+use Rattle.tlsf_pool.proofs.lemmas.laws.Orders.{swap_sum}
 
 -- the sum of a number for each length
 abbrev pub sum_of : (ℕ → ℕ) → List ℕ → ℕ
@@ -39,6 +39,9 @@ none_both : (c : Bool) → cond {A = Option ℕ} c None None ≡ None
 none_both true = refl
 none_both false = refl
 
+other_name : (name own other : Name) → is_same name own ≡ false → is_same name other ≡ true → is_same own other ≡ false
+other_name name own other differ agree = same_flip other own false (subst (λ (n : Name). is_same n own ≡ false) (same_is name other agree) differ)
+
 pub lookup_without : (name other : Name) (l : Inventory) → lookup other (without name l) ≡ cond (is_same name other) None (lookup other l)
 lookup_without name other [] = sym (none_both (is_same name other))
 lookup_without name other (e ∷ l) = step (lookup_without name other l) (is_same name e.0) refl
@@ -52,16 +55,13 @@ lookup_without name other (e ∷ l) = step (lookup_without name other l) (is_sam
     swapped true d x y f = ap (λ (b : Bool). cond b y None) (f refl)
     swapped false d x y f = refl
 
-    other_name : is_same name e.0 ≡ false → is_same name other ≡ true → is_same e.0 other ≡ false
-    other_name differ agree = same_flip other e.0 false (subst (λ (n : Name). is_same n e.0 ≡ false) (same_is name other agree) differ)
-
     step : lookup other (without name l) ≡ cond (is_same name other) None (lookup other l)
         → (c : Bool) → is_same name e.0 ≡ c → lookup other (cond (not c) (e ∷ without name l) (without name l)) ≡ cond (is_same name other) None (cond (is_same e.0 other) (Some e.1) (lookup other l))
     step rest true agree =
         rest ∙ both (is_same name other) (is_same e.0 other) (lookup other l) (Some e.1) (ap (λ (n : Name). is_same n other) (same_is name e.0 agree))
     step rest false differ =
         ap (λ (o : Option ℕ). cond (is_same e.0 other) (Some e.1) o) rest
-        ∙ swapped (is_same name other) (is_same e.0 other) (lookup other l) (Some e.1) (other_name differ)
+        ∙ swapped (is_same name other) (is_same e.0 other) (lookup other l) (Some e.1) (other_name name e.0 other differ)
 
 without_none : (name : Name) (l : Inventory) → lookup name l ≡ None → without name l ≡ l
 without_none name [] none = refl
@@ -115,9 +115,6 @@ lookup_with name other len (e ∷ l) = step (lookup_with name other len l) (is_s
     swapped true false x f = refl
     swapped false d x f = refl
 
-    other_name : is_same name e.0 ≡ false → is_same name other ≡ true → is_same e.0 other ≡ false
-    other_name differ agree = same_flip other e.0 false (subst (λ (n : Name). is_same n e.0 ≡ false) (same_is name other agree) differ)
-
     step : lookup other (with_length l name len) ≡ cond (is_same name other) (option_map (λ _. len) (lookup other l)) (lookup other l) → (c : Bool) → is_same name e.0 ≡ c
         → lookup other (cond {A = Name × ℕ} c (e.0, len) e ∷ with_length l name len) ≡ cond (is_same name other) (option_map (λ _. len) (lookup other (e ∷ l))) (lookup other (e ∷ l))
     step rest true agree =
@@ -125,7 +122,7 @@ lookup_with name other len (e ∷ l) = step (lookup_with name other len l) (is_s
         ∙ both (is_same name other) (is_same e.0 other) (lookup other l) (ap (λ (n : Name). is_same n other) (same_is name e.0 agree))
     step rest false differ =
         ap (λ (o : Option ℕ). cond (is_same e.0 other) (Some e.1) o) rest
-        ∙ swapped (is_same name other) (is_same e.0 other) (lookup other l) (other_name differ)
+        ∙ swapped (is_same name other) (is_same e.0 other) (lookup other l) (other_name name e.0 other differ)
 
 with_none : (name : Name) (len : ℕ) (l : Inventory) → lookup name l ≡ None → with_length l name len ≡ l
 with_none name len [] none = refl
@@ -139,9 +136,6 @@ with_none name len (e ∷ l) none = step (with_none name len l) (is_same e.0 nam
 shift : (a b c d e : ℕ) → a + b ≡ c + d → a + (e + b) ≡ c + (e + d)
 shift a b c d e same = omega (arith, same)
 
-swap : (a b c : ℕ) → a + (b + c) ≡ b + (a + c)
-swap a b c = omega arith
-
 total_with : (f : ℕ → ℕ) (name : Name) (n len : ℕ) (l : Inventory) → AreNamesApart l → lookup name l ≡ Some n → f n + sum_of f (lengths (with_length l name len)) ≡ f len + sum_of f (lengths l)
 total_with f name n len [] apart found = absurd cc
 total_with f name n len (e ∷ l) apart found = step (total_with f name n len l apart.1) (is_same e.0 name) refl found
@@ -153,7 +147,7 @@ total_with f name n len (e ∷ l) apart found = step (total_with f name n len l 
         let none : lookup name l ≡ None = subst (λ (other : Name). lookup other l ≡ None) (same_is e.0 name agree) apart.0 in
         ap (λ (b : Bool). f n + sum_of f (lengths (cond {A = Name × ℕ} b (e.0, len) e ∷ with_length l name len))) (same_flip e.0 name true agree)
         ∙ ap (λ (left : Inventory). f n + (f len + sum_of f (lengths left))) (with_none name len l none)
-        ∙ swap (f n) (f len) (sum_of f (lengths l))
+        ∙ swap_sum (f n) (f len) (sum_of f (lengths l))
         ∙ ap (λ (m : ℕ). f len + (f m + sum_of f (lengths l))) (sym old)
     step rest false differ found =
         ap (λ (b : Bool). f n + sum_of f (lengths (cond {A = Name × ℕ} b (e.0, len) e ∷ with_length l name len))) (same_flip e.0 name false differ)
@@ -176,7 +170,7 @@ mapped false new old = refl
 given : (sli : ℕ) (h : HeapState) (n : ℕ) (s : Site) (l : Inventory) → Agrees h l → IsLawful h → IsSiteOf h.blocks s → is_fit sli (want n) s.block ≡ true
     → Agrees (gives h n s).heap ((record { heap = h.id; at = place_of s; serial = h.tick }, n) ∷ l)
 given sli h n s l agrees lawful site fit = record {
-  totals = λ f. load_given sli f h s n site fit ∙ ap (λ (t : ℕ). f n + t) (agrees.totals f);
+  totals = λ f. load_given sli f h s (want n) n site fit ∙ ap (λ (t : ℕ). f n + t) (agrees.totals f);
   found = λ other.
       ap (λ (o : Option ℕ). cond (is_same name other) (Some n) o) (agrees.found other)
       ∙ ap (λ (k : ℕ). cond (is_same name other) (Some k) (option_map length (contents h other))) (sym (length-replicate n 0))
@@ -190,28 +184,28 @@ given sli h n s l agrees lawful site fit = record {
 cancelled : (a b c d e : ℕ) → a + b ≡ c → a + d ≡ e → c ≡ e → b ≡ d
 cancelled a b c d e f g h = omega (arith, f, g, h)
 
-taken : (h : HeapState) (s : Site) (name : Name) (l : Inventory) → Agrees h l → IsLawful h → name.heap ≡ h.id → named name h.blocks ≡ Some s → Agrees (takes h s).heap (without name l)
-taken h s name l agrees lawful own e =
-    let at_site = named_site name h.blocks s e in
-    let len = agrees.found name ∙ ap (option_map length) (found_bytes h name s own e) in record {
+taken : (h : HeapState) (s : Site) (name : Name) (l : Inventory) → Agrees h l → IsLawful h → name.heap ≡ h.id → IsSiteOf h.blocks s → is_named name.at name.serial s ≡ true
+    → Agrees (takes h s).heap (without name l)
+taken h s name l agrees lawful own site is =
+    let len = agrees.found name ∙ ap (option_map length) (found_bytes h name s lawful own site is) in record {
       totals = λ f.
           cancelled (f (length (bytes_of s.block))) (load f (takes h s).heap.blocks) (load f h.blocks) (sum_of f (lengths (without name l))) (sum_of f (lengths l))
-          (load_taken f h s name.at name.serial at_site.0 at_site.1) (total_without f name (length (bytes_of s.block)) l agrees.apart len) (agrees.totals f);
+          (load_taken f h s name.at name.serial site is) (total_without f name (length (bytes_of s.block)) l agrees.apart len) (agrees.totals f);
       found = λ other.
           lookup_without name other l
           ∙ ap (λ (o : Option ℕ). cond (is_same name other) None o) (agrees.found other)
-          ∙ sym (ap (option_map length) (taken_name h s name other lawful own at_site.0 at_site.1) ∙ mapped (is_same name other) None (contents h other));
+          ∙ sym (ap (option_map length) (taken_name h s name other lawful own site is) ∙ mapped (is_same name other) None (contents h other));
       apart = apart_without name l agrees.apart;
     }
 
-changed : (h : HeapState) (s : Site) (at : ℕ) (bytes : List ℕ) (name : Name) (l : Inventory) → Agrees h l → IsLawful h → name.heap ≡ h.id → named name h.blocks ≡ Some s
-    → has_bytes s.block at (length bytes) ≡ true → Agrees (writes h at bytes s).heap l
-changed h s at bytes name l agrees lawful own e has = record {
-  totals = λ f. load_written f h s at bytes (named_site name h.blocks s e).0 has ∙ agrees.totals f;
+changed : (h : HeapState) (s : Site) (at : ℕ) (bytes : List ℕ) (name : Name) (l : Inventory) → Agrees h l → IsLawful h → name.heap ≡ h.id → IsSiteOf h.blocks s
+    → is_named name.at name.serial s ≡ true → has_bytes s.block at (length bytes) ≡ true → Agrees (writes h at bytes s).heap l
+changed h s at bytes name l agrees lawful own site is has = record {
+  totals = λ f. load_written f h s at bytes site has ∙ agrees.totals f;
   found = λ other.
       agrees.found other
       ∙ same_length other (is_same name other) refl
-      ∙ sym (ap (option_map length) (written_name h s at bytes name other lawful own e) ∙ mapped (is_same name other) (Some (overwritten (bytes_of s.block) at bytes)) (contents h other));
+      ∙ sym (ap (option_map length) (written_name h s at bytes name other lawful own site is) ∙ mapped (is_same name other) (Some (overwritten (bytes_of s.block) at bytes)) (contents h other));
   apart = agrees.apart;
 }
   where
@@ -221,15 +215,15 @@ changed h s at bytes name l agrees lawful own e has = record {
     same_length : (other : Name) (c : Bool) → is_same name other ≡ c
         → option_map length (contents h other) ≡ cond c (Some (length (overwritten (bytes_of s.block) at bytes))) (option_map length (contents h other))
     same_length other true agree = subst (λ (n : Name). option_map length (contents h n) ≡ Some (length (overwritten (bytes_of s.block) at bytes))) (same_is name other agree)
-        (ap (option_map length) (found_bytes h name s own e) ∙ ap Some (sym kept))
+        (ap (option_map length) (found_bytes h name s lawful own site is) ∙ ap Some (sym kept))
     same_length other false differ = refl
 
-lengthened : (h : HeapState) (s : Site) (name : Name) (len : ℕ) (l : Inventory) → Agrees h l → IsLawful h → name.heap ≡ h.id → IsSiteOf h.blocks s → named name h.blocks ≡ Some s → is_named name.at name.serial s ≡ true
-    → Agrees (refits h len s).heap (with_length l name len)
-lengthened h s name len l agrees lawful own site e is = record {
+lengthened : (h : HeapState) (s : Site) (name : Name) (len : ℕ) (l : Inventory) → Agrees h l → IsLawful h → name.heap ≡ h.id → IsSiteOf h.blocks s → is_named name.at name.serial s ≡ true
+    → Agrees (resizes h (want len) len s).heap (with_length l name len)
+lengthened h s name len l agrees lawful own site is = record {
   totals = λ f.
-      resum (f old) (load f (refits h len s).heap.blocks) (f len) (load f h.blocks) (sum_of f (lengths (with_length l name len))) (sum_of f (lengths l))
-      (load_resized f h s name.at name.serial len site is) (total_with f name old len l agrees.apart held) (agrees.totals f);
+      resum (f old) (load f (resizes h (want len) len s).heap.blocks) (f len) (load f h.blocks) (sum_of f (lengths (with_length l name len))) (sum_of f (lengths l))
+      (load_resized f h s name.at name.serial (want len) len site is) (total_with f name old len l agrees.apart held) (agrees.totals f);
   found = λ other.
       lookup_with name other len l
       ∙ new_length other (is_same name other) refl
@@ -242,7 +236,7 @@ lengthened h s name len l agrees lawful own site e is = record {
     old = length (bytes_of s.block)
 
     held : lookup name l ≡ Some old
-    held = agrees.found name ∙ ap (option_map length) (found_bytes h name s own e)
+    held = agrees.found name ∙ ap (option_map length) (found_bytes h name s lawful own site is)
 
     resum : (a b c d u v : ℕ) → a + b ≡ c + d → a + u ≡ c + v → d ≡ v → b ≡ u
     resum a b c d u v f g k = omega (arith, f, g, k)
@@ -251,30 +245,15 @@ lengthened h s name len l agrees lawful own site e is = record {
     new_length other true agree = ap (option_map (λ _. len)) (subst (λ (n : Name). lookup n l ≡ Some old) (same_is name other agree) held)
     new_length other false differ = agrees.found other
 
--- the inventory after a release, and after a write, agrees with the heap that is left
-abbrev Freed : Name → Inventory → Outcome (Unit {0}) → Type 0
-Freed name l o = Agrees o.heap (inventory_after l (Release name) (Released o.answer))
-
-abbrev Wrote : Name → ℕ → List ℕ → Inventory → Outcome (Unit {0}) → Type 0
-Wrote name at bytes l o = Agrees o.heap (inventory_after l (Write name at bytes) (Written o.answer))
-
 pub agrees_call : (sli : ℕ) (h : HeapState) (call : Call) (l : Inventory) → Agrees h l → IsLawful h → Agrees (answered sli h call).1 (inventory_after l call (answered sli h call).0)
 agrees_call sli h (Allocate n) l agrees lawful =
     by_allocated sli (λ o. Agrees o.heap (inventory_after l (Allocate n) (Allocated o.answer))) h n (λ why. agrees) (λ s site fit. given sli h n s l agrees lawful site fit)
 agrees_call sli h (Release name) l agrees lawful =
-    by_test (Freed name l) (eqb name.heap h.id) (released_at h (named name h.blocks)) (refused h Foreign) (λ own. at (eqb-true name.heap h.id own) (named name h.blocks) refl) agrees
-  where
-    at : name.heap ≡ h.id → (o : Option Site) → named name h.blocks ≡ o → Freed name l (released_at h o)
-    at own None e = agrees
-    at own (Some s) e = by_test (Freed name l) (is_worn h) (refused h Worn) (takes h s) (λ _. agrees) (taken h s name l agrees lawful own e)
+    by_released (λ o. Agrees o.heap (inventory_after l (Release name) (Released o.answer))) h name (λ why. agrees) (λ s own site is. taken h s name l agrees lawful own site is)
 agrees_call sli h (Write name at bytes) l agrees lawful =
-    by_test (Wrote name at bytes l) (eqb name.heap h.id) (written_at h at bytes (named name h.blocks)) (refused h Foreign) (λ own. on (eqb-true name.heap h.id own) (named name h.blocks) refl) agrees
-  where
-    on : name.heap ≡ h.id → (o : Option Site) → named name h.blocks ≡ o → Wrote name at bytes l (written_at h at bytes o)
-    on own None e = agrees
-    on own (Some s) e = by_test (Wrote name at bytes l) (has_bytes s.block at (length bytes)) (writes h at bytes s) (refused h Range) (changed h s at bytes name l agrees lawful own e) agrees
+    by_written_named (λ o. Agrees o.heap (inventory_after l (Write name at bytes) (Written o.answer))) h name at bytes (λ why. agrees) (λ s own site is has. changed h s at bytes name l agrees lawful own site is has)
 agrees_call sli h (Resize name len) l agrees lawful =
-    by_resize (λ o. Agrees o.heap (inventory_after l (Resize name len) (Resized o.answer))) h name len (λ why. agrees) (λ s own e site is. lengthened h s name len l agrees lawful own site e is)
+    by_resized_words (λ o. Agrees o.heap (inventory_after l (Resize name len) (Resized o.answer))) h name (want len) len (λ why. agrees) (λ s own site is room. lengthened h s name len l agrees lawful own site is)
 agrees_call sli h (Read name at n) l agrees lawful = agrees
 
 pub agrees_run : (sli : ℕ) (level : IsLevel sli) (h : HeapState) (calls : List Call) (l : Inventory) → Agrees h l → IsLawful h → Agrees (run sli h calls).1 (inventory_after_all l calls (run sli h calls).0)

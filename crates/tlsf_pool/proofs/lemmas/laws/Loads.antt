@@ -1,12 +1,12 @@
 -- The sum over the live blocks of a number for the length of each payload, and what the calls make of it.
-use Rattle.tlsf_pool.proofs.Common.{◌≡◌, ℕ, ◌+◌, true, List, [], ◌∷◌, ◌++◌, length, replicate, refl, ap, ◌∙◌, inl, inr, arith, add-zero, length-replicate, false≢true, cases_lt, Block, Live, Free, HeapState, size_of, bytes_of, want, Site, is_fit, carved, has_serial, is_named, past_free, before_free, first_free, last_free, with_bytes, fitted, refitted, overwritten, has_bytes}
+use Rattle.tlsf_pool.proofs.Common.{◌≡◌, ℕ, ◌+◌, true, List, [], ◌∷◌, ◌++◌, length, replicate, refl, ap, ◌∙◌, inl, inr, arith, add-zero, length-replicate, false≢true, cases_lt, Block, Live, Free, HeapState, size_of, bytes_of, Site, is_fit, carved, has_serial, is_named, past_free, before_free, first_free, last_free, with_bytes, fitted, refitted, overwritten, has_bytes}
 use Rattle.tlsf_heap.proofs.lemmas.blocks.Find.{and_left}
 use Rattle.tlsf_heap.proofs.lemmas.blocks.Replace.{carved_small, carved_large}
 use Rattle.tlsf_heap.proofs.lemmas.blocks.Coalesce.{by_last}
 use Rattle.tlsf_heap.proofs.lemmas.calls.Write.{length-overwritten, range_fits}
-use Rattle.tlsf_heap.proofs.lemmas.calls.Outcomes.{IsSiteOf, gives, gives_words, resizes, takes, writes}
+use Rattle.tlsf_heap.proofs.lemmas.calls.Outcomes.{IsSiteOf, gives_words, resizes, takes, writes}
 use Rattle.tlsf_heap.proofs.lemmas.words.NewBytes.{length-fitted}
-use Rattle.tlsf_pool.proofs.lemmas.laws.Refits.{by_refit, refits}
+use Rattle.tlsf_pool.proofs.lemmas.laws.Refits.{by_refit}
 
 abbrev pub load : (ℕ → ℕ) → List Block → ℕ
 load f [] = 0
@@ -60,16 +60,12 @@ module _ (f : ℕ → ℕ) where
       by_refit (λ l. load f l ≡ f len + load f bs) tick n len m s xs bs (λ enough few. omega (arith, many)) (λ large. omega (arith, many, past)) (λ small. omega (arith, many, past))
 
   -- an accepted resize puts the number for its length in the place of that for the old one, whatever words it is for
-  pub load_resized_words : (h : HeapState) (s : Site) (at serial n len : ℕ) → IsSiteOf h.blocks s → is_named at serial s ≡ true
+  pub load_resized : (h : HeapState) (s : Site) (at serial n len : ℕ) → IsSiteOf h.blocks s → is_named at serial s ≡ true
       → f (length (bytes_of s.block)) + load f (resizes h n len s).heap.blocks ≡ f len + load f h.blocks
-  load_resized_words h s at serial n len site is =
+  load_resized h s at serial n len site is =
       let one : has_serial serial s.block ≡ true = and_left _ _ is in
       let new : List Block = refitted h.tick n len s.block s.after in
       omega (arith, load_site h s site, load_named serial s.block one, load-append s.before new, load_refitted h.tick n len serial s.block s.after one)
-
-  pub load_resized : (h : HeapState) (s : Site) (at serial len : ℕ) → IsSiteOf h.blocks s → is_named at serial s ≡ true
-      → f (length (bytes_of s.block)) + load f (refits h len s).heap.blocks ≡ f len + load f h.blocks
-  load_resized h s at serial len = load_resized_words h s at serial (want len) len
 
   -- a write leaves it
   pub load_written : (h : HeapState) (s : Site) (at : ℕ) (bytes : List ℕ) → IsSiteOf h.blocks s → has_bytes s.block at (length bytes) ≡ true
@@ -87,10 +83,7 @@ module _ (sli : ℕ) (f : ℕ → ℕ) where
   load_fit n (Free m s) fit = refl
 
   -- an accepted allocate adds the number for its length, whatever words it is for
-  pub load_given_words : (h : HeapState) (s : Site) (n len : ℕ) → IsSiteOf h.blocks s → is_fit sli n s.block ≡ true → load f (gives_words h n len s).heap.blocks ≡ f len + load f h.blocks
-  load_given_words h s n len site fit =
+  pub load_given : (h : HeapState) (s : Site) (n len : ℕ) → IsSiteOf h.blocks s → is_fit sli n s.block ≡ true → load f (gives_words h n len s).heap.blocks ≡ f len + load f h.blocks
+  load_given h s n len site fit =
       let new : List Block = carved (size_of s.block) n h.tick len in
       omega (arith, load_site f h s site, load_fit n s.block fit, load-append f (s.before ++ new) s.after, load-append f s.before new, load_carved f (size_of s.block) n h.tick len)
-
-  pub load_given : (h : HeapState) (s : Site) (len : ℕ) → IsSiteOf h.blocks s → is_fit sli (want len) s.block ≡ true → load f (gives h len s).heap.blocks ≡ f len + load f h.blocks
-  load_given h s len = load_given_words h s (want len) len

@@ -1,5 +1,5 @@
 -- The bytes under a name, by a look through the blocks from the first on.
-use Rattle.tlsf_pool.proofs.Common.{◌≤◌, Result, arith, length-take-le, take, drop, ◌≡◌, ◌≢◌, ℕ, ◌+◌, ◌<◌, Bool, true, false, cond, eqb, ◌&&◌, List, [], ◌∷◌, ◌++◌, length, replicate, find, Option, Some, None, Ok, Err, refl, sym, ap, ◌∙◌, subst, inl, inr, append_assoc, eq-eqb, ◌↔◌, IsSome, AllByRecursion, option_map, is_some, drop_at, take_at, IsLevel, le-leb, lt-leb, eqb-true, false≢true, cases_lt, cases_eq, ne_eqb, Block, Live, Free, HeapState, size_of, words_in, serials, bytes_of, want, Site, sites_behind, place_of, is_fit, IsLawful, Outcome, refused, carved, has_serial, is_named, named, first_free, past_free, last_free, before_free, coalesced, fitted, refitted, overwritten, with_bytes, has_bytes, written, written_at, read_of, read_at, Call, Allocate, Release, Write, Resize, Read, Answer, Allocated, Released, Written, Resized, Got, answered, opened, run, Name, Refusal, Foreign, Range, Contents, bytes_there, contents, is_same, with_contents, after, after_all, got, HasWhatIsLive, ChangesOneName, part, WritesIntoContents, ReadsBack, ReadsWhatWasWritten}
+use Rattle.tlsf_pool.proofs.Common.{◌≤◌, Result, arith, length-take-le, take, drop, ◌≡◌, ◌≢◌, ℕ, ◌+◌, ◌<◌, Bool, true, false, cond, eqb, ◌&&◌, List, [], ◌∷◌, ◌++◌, length, replicate, find, Option, Some, None, Ok, Err, refl, sym, ap, ◌∙◌, subst, inl, inr, append_assoc, eq-eqb, ◌↔◌, IsSome, AllByRecursion, option_map, is_some, drop_at, take_at, IsLevel, le-leb, lt-leb, eqb-true, false≢true, cases_lt, cases_eq, ne_eqb, Block, Live, Free, HeapState, size_of, words_in, serials, bytes_of, want, Site, sites_behind, place_of, is_fit, IsLawful, refused, carved, has_serial, is_named, named, first_free, past_free, last_free, before_free, coalesced, fitted, refitted, overwritten, with_bytes, has_bytes, written, written_at, read_of, read_at, Call, Allocate, Release, Write, Resize, Read, Answer, Allocated, Released, Written, Resized, answered, opened, run, Name, Refusal, Foreign, Range, Contents, bytes_there, contents, is_same, with_contents, after, after_all, got, HasWhatIsLive, ChangesOneName, part, WritesIntoContents, ReadsBack, ReadsWhatWasWritten}
 use Rattle.tlsf_heap.proofs.lemmas.calls.Write.{length-overwritten}
 use Rattle.tlsf_words.specs.Lists.{AreDistinct}
 use Rattle.tlsf_heap.proofs.lemmas.blocks.Find.{and_left, and_right}
@@ -7,10 +7,10 @@ use Rattle.tlsf_heap.proofs.lemmas.blocks.Lawful.{all_left, all_right, all_weake
 use Rattle.tlsf_heap.proofs.lemmas.blocks.Replace.{carved_small, carved_large}
 use Rattle.tlsf_heap.proofs.lemmas.blocks.Coalesce.{by_last}
 use Rattle.tlsf_heap.proofs.lemmas.blocks.Around.{last_words}
-use Rattle.tlsf_heap.proofs.lemmas.calls.Outcomes.{by_test, IsSiteOf, named_site, gives, by_allocated, takes, by_released, writes, lawful_run}
+use Rattle.tlsf_heap.proofs.lemmas.calls.Outcomes.{by_test, IsSiteOf, gives, by_allocated, takes, by_released, resizes, by_resized_words, writes, by_written_named, lawful_run}
 use Rattle.tlsf_pool.proofs.lemmas.laws.Names.{same_self}
 use Rattle.tlsf_pool.specs.laws.Contents.{part_of}
-use Rattle.tlsf_pool.proofs.lemmas.laws.Refits.{by_refit, by_resize, refits}
+use Rattle.tlsf_pool.proofs.lemmas.laws.Refits.{by_refit}
 
 abbrev or_else : {X : Type 0} → Option X → Option X → Option X
 or_else None y = y
@@ -72,69 +72,64 @@ module _ (at serial : ℕ) where
   abbrev asked : ℕ → ℕ → Bool
   asked place own = eqb own serial && eqb place at
 
-  -- what an edit of one block changes, where no other block has its serial
-  by_asked : (c : Bool) (x y z new : Option (List ℕ)) → (c ≡ true → x ≡ None) → or_else x (cond c new z) ≡ cond c new (or_else x (cond c y z))
-  by_asked true x y z new f = ap (λ (o : Option (List ℕ)). or_else o new) (f refl)
-  by_asked false x y z new f = refl
-
   -- ---- an edit of the blocks behind `front`, of which the first was or becomes the one with the serial `own`
+
+  look_front : (front bs : List Block) → look 0 (front ++ bs) ≡ or_else (look 0 front) (look (words_in front) bs)
+  look_front front bs =
+      let place : 0 + words_in front ≡ words_in front = omega arith in look-append 0 front bs ∙ ap (λ (i : ℕ). or_else (look 0 front) (look i bs)) place
+
+  -- what it changes, where no block of `front` has that serial
+  look_behind : (front left old : List Block) (own : ℕ) (new : Option (List ℕ)) → AllByRecursion (λ y. y ≢ own) (serials front)
+      → look (words_in front) left ≡ cond (asked (words_in front) own) new (look (words_in front) old) → look 0 (front ++ left) ≡ cond (asked (words_in front) own) new (look 0 (front ++ old))
+  look_behind front left old own new others e =
+      let c : Bool = asked (words_in front) own in
+      look_front front left
+      ∙ ap (or_else (look 0 front)) e
+      ∙ into c (look 0 front) (look (words_in front) old) (λ t. look_none 0 front (subst (λ (i : ℕ). AllByRecursion (λ y. y ≢ i) (serials front)) (eqb-true own serial (and_left _ _ t)) others))
+      ∙ ap (λ (o : Option (List ℕ)). cond c new o) (sym (look_front front old))
+    where
+      into : (c : Bool) (x z : Option (List ℕ)) → (c ≡ true → x ≡ None) → or_else x (cond c new z) ≡ cond c new (or_else x z)
+      into true x z f = ap (λ (o : Option (List ℕ)). or_else o new) (f refl)
+      into false x z f = refl
+
+  again : (c : Bool) (new old z : Option (List ℕ)) → cond c new z ≡ cond c new (cond c old z)
+  again true new old z = refl
+  again false new old z = refl
 
   -- a block with other bytes
   look_with : (front back : List Block) (m own : ℕ) (old new : List ℕ) → AllByRecursion (λ y. y ≢ own) (serials front)
       → look 0 (front ++ Live m own new ∷ back) ≡ cond (asked (words_in front) own) (Some new) (look 0 (front ++ Live m own old ∷ back))
   look_with front back m own old new others =
-      let place : 0 + words_in front ≡ words_in front = omega arith in
-      look-append 0 front (Live m own new ∷ back)
-      ∙ ap (λ (i : ℕ). or_else (look 0 front) (look i (Live m own new ∷ back))) place
-      ∙ by_asked (asked (words_in front) own) (look 0 front) (Some old) (look (words_in front + m) back) (Some new) (λ t. look_none 0 front (subst (λ (i : ℕ). AllByRecursion (λ y. y ≢ i) (serials front)) (eqb-true own serial (and_left _ _ t)) others))
-      ∙ ap (λ (o : Option (List ℕ)). cond (asked (words_in front) own) (Some new) o) (sym (look-append 0 front (Live m own old ∷ back) ∙ ap (λ (i : ℕ). or_else (look 0 front) (look i (Live m own old ∷ back))) place))
+      look_behind front (Live m own new ∷ back) (Live m own old ∷ back) own (Some new) others (again (asked (words_in front) own) (Some new) (Some old) (look (words_in front + m) back))
 
   -- a block with another length, which may take in the free block behind it and leave a free rest
   look_refitted : (front back : List Block) (m own tick n len : ℕ) (old : List ℕ) → AllByRecursion (λ y. y ≢ own) (serials front)
       → look 0 (front ++ refitted tick n len (Live m own old) back) ≡ cond (asked (words_in front) own) (Some (fitted old len)) (look 0 (front ++ Live m own old ∷ back))
   look_refitted front back m own tick n len old others =
-      let place : 0 + words_in front ≡ words_in front = omega arith in
-      let new : List ℕ = fitted old len in
-      let left : List Block = refitted tick n len (Live m own old) back in
       let p = words_in front in
       let c : Bool = asked p own in
-      let first : look p left ≡ cond c (Some new) (look (p + m) back) =
-      by_refit (λ l. look p l ≡ cond c (Some new) (look (p + m) back)) tick n len m own old back (λ enough few. refl)
-      (λ large. ap (λ (o : Option (List ℕ)). cond c (Some new) o) (moved _ _ (past_free back) (omega (arith, large)) ∙ look_past (p + m) back))
-      (λ small. ap (λ (o : Option (List ℕ)). cond c (Some new) o) (moved _ _ (past_free back) (omega arith) ∙ look_past (p + m) back)) in
-      look-append 0 front left
-      ∙ ap (λ (i : ℕ). or_else (look 0 front) (look i left)) place
-      ∙ ap (or_else (look 0 front)) first
-      ∙ by_asked c (look 0 front) (Some old) (look (p + m) back) (Some new) (λ t. look_none 0 front (subst (λ (i : ℕ). AllByRecursion (λ y. y ≢ i) (serials front)) (eqb-true own serial (and_left _ _ t)) others))
-      ∙ ap (λ (o : Option (List ℕ)). cond c (Some new) o) (sym (look-append 0 front (Live m own old ∷ back) ∙ ap (λ (i : ℕ). or_else (look 0 front) (look i (Live m own old ∷ back))) place))
+      let new : Option (List ℕ) = Some (fitted old len) in
+      look_behind front (refitted tick n len (Live m own old) back) (Live m own old ∷ back) own new others
+      (by_refit (λ l. look p l ≡ cond c new (look (p + m) back)) tick n len m own old back (λ enough few. refl)
+      (λ large. ap (λ (o : Option (List ℕ)). cond c new o) (moved _ _ (past_free back) (omega (arith, large)) ∙ look_past (p + m) back))
+      (λ small. ap (λ (o : Option (List ℕ)). cond c new o) (moved _ _ (past_free back) (omega arith) ∙ look_past (p + m) back)) ∙ again c new (Some old) (look (p + m) back))
 
   -- a free block becomes live
   look_given : (front back : List Block) (m s n own len : ℕ) → AllByRecursion (λ y. y ≢ own) (serials front)
       → look 0 (front ++ carved m n own len ++ back) ≡ cond (asked (words_in front) own) (Some (replicate len 0)) (look 0 (front ++ Free m s ∷ back))
   look_given front back m s n own len others =
-      let place : 0 + words_in front ≡ words_in front = omega arith in
       let zeros : List ℕ = replicate len 0 in
       let first : look (words_in front) (carved m n own len ++ back) ≡ cond (asked (words_in front) own) (Some zeros) (look (words_in front + m) back) = elim (cases_lt m (n + 4)) [
         | inl small ↦ ap (λ (l : List Block). look (words_in front) (l ++ back)) (carved_small m n own len small)
         | inr large ↦ ap (λ (l : List Block). look (words_in front) (l ++ back)) (carved_large m n own len large)
             ∙ ap (λ (o : Option (List ℕ)). cond (asked (words_in front) own) (Some zeros) o) (moved _ _ back (omega (arith, large)))
       ] in
-      ap (look 0) (append_assoc front (carved m n own len) back)
-      ∙ look-append 0 front (carved m n own len ++ back)
-      ∙ ap (λ (i : ℕ). or_else (look 0 front) (look i (carved m n own len ++ back))) place
-      ∙ ap (or_else (look 0 front)) first
-      ∙ into (asked (words_in front) own) (look 0 front) (look (words_in front + m) back) (Some zeros) (λ t. look_none 0 front (subst (λ (i : ℕ). AllByRecursion (λ y. y ≢ i) (serials front)) (eqb-true own serial (and_left _ _ t)) others))
-      ∙ ap (λ (o : Option (List ℕ)). cond (asked (words_in front) own) (Some zeros) o) (sym (look-append 0 front (Free m s ∷ back) ∙ ap (λ (i : ℕ). or_else (look 0 front) (look i (Free m s ∷ back))) place))
-    where
-      into : (c : Bool) (x z new : Option (List ℕ)) → (c ≡ true → x ≡ None) → or_else x (cond c new z) ≡ cond c new (or_else x z)
-      into true x z new f = ap (λ (o : Option (List ℕ)). or_else o new) (f refl)
-      into false x z new f = refl
+      ap (look 0) (append_assoc front (carved m n own len) back) ∙ look_behind front (carved m n own len ++ back) (Free m s ∷ back) own (Some zeros) others first
 
   -- a live block becomes free, and one with its free neighbours
   look_taken : (front back : List Block) (m own tick : ℕ) (old : List ℕ) → AllByRecursion (λ y. y ≢ own) (serials front) → AllByRecursion (λ y. y ≢ own) (serials back)
       → look 0 (coalesced tick (record { before = front; block = Live m own old; after = back })) ≡ cond (asked (words_in front) own) None (look 0 (front ++ Live m own old ∷ back))
   look_taken front back m own tick old others behind =
-      let place : 0 + words_in front ≡ words_in front = omega arith in
       let ends : 0 + words_in (before_free front) + (last_free front + m + first_free back) ≡ words_in front + m + first_free back = omega (arith, last_words front) in
       let none : (bs : List Block) (i : ℕ) → AllByRecursion (λ y. y ≢ own) (serials bs) → asked (words_in front) own ≡ true → look i bs ≡ None = λ bs i all t.
       look_none i bs (subst (λ (i : ℕ). AllByRecursion (λ y. y ≢ i) (serials bs)) (eqb-true own serial (and_left _ _ t)) all) in
@@ -142,7 +137,7 @@ module _ (at serial : ℕ) where
       ∙ ap (λ (o : Option (List ℕ)). or_else o (look (0 + words_in (before_free front) + (last_free front + m + first_free back)) (past_free back))) (look_before 0 front)
       ∙ ap (or_else (look 0 front)) (moved _ _ (past_free back) ends ∙ look_past (words_in front + m) back)
       ∙ gone (asked (words_in front) own) (look 0 front) (Some old) (look (words_in front + m) back) (none front 0 others) (none back (words_in front + m) behind)
-      ∙ ap (λ (o : Option (List ℕ)). cond (asked (words_in front) own) None o) (sym (look-append 0 front (Live m own old ∷ back) ∙ ap (λ (i : ℕ). or_else (look 0 front) (look i (Live m own old ∷ back))) place))
+      ∙ ap (λ (o : Option (List ℕ)). cond (asked (words_in front) own) None o) (sym (look_front front (Live m own old ∷ back)))
     where
       gone : (c : Bool) (x y z : Option (List ℕ)) → (c ≡ true → x ≡ None) → (c ≡ true → z ≡ None) → or_else x z ≡ cond c None (or_else x (cond c y z))
       gone true x y z f g = ap (λ (o : Option (List ℕ)). or_else o z) (f refl) ∙ g refl
@@ -211,92 +206,60 @@ given_name sli h len s name lawful site fit =
     by_block (Live m t xs) fit = absurd (false≢true fit)
     by_block (Free m t) fit = look_given name.at name.serial s.before s.after m t (want len) h.tick len others
 
+-- the block of a name is edited, by a look at a live block with its serial
+edited : (h : HeapState) (s : Site) (tick : ℕ) (own_name name : Name) (edit : Block → List Block) (new : List ℕ → Option (List ℕ)) → IsLawful h → own_name.heap ≡ h.id → IsSiteOf h.blocks s
+    → is_named own_name.at own_name.serial s ≡ true
+    → ((m t : ℕ) (xs : List ℕ) → AreDistinct (serials (s.before ++ Live m t xs ∷ s.after))
+    → look name.at name.serial 0 (edit (Live m t xs)) ≡ cond (asked name.at name.serial (words_in s.before) t) (new xs) (look name.at name.serial 0 (s.before ++ Live m t xs ∷ s.after)))
+    → contents (record { id = h.id; words = h.words; tick = tick; blocks = edit s.block }) name ≡ with_contents (contents h) own_name (new (bytes_of s.block)) name
+edited h s tick own_name name edit new lawful own site is each =
+    changes h tick (edit s.block) (new (bytes_of s.block)) own_name name own
+    (at_site h s name.at name.serial _ _ (new (bytes_of s.block)) site (by_block s.block (and_left _ _ is) (subst (λ (l : List Block). AreDistinct (serials l)) (sym site) lawful.serials_differ)))
+  where
+    at_place : place_of s ≡ own_name.at
+    at_place = eqb-true _ _ (and_right (has_serial own_name.serial s.block) _ is)
+
+    by_block : (b : Block) → has_serial own_name.serial b ≡ true → AreDistinct (serials (s.before ++ b ∷ s.after))
+        → look name.at name.serial 0 (edit b) ≡ cond (eqb own_name.serial name.serial && eqb own_name.at name.at) (new (bytes_of b)) (look name.at name.serial 0 (s.before ++ b ∷ s.after))
+    by_block (Live m t xs) e differ =
+        rw (← (eqb-true t own_name.serial e), ← at_place) (each m t xs differ)
+    by_block (Free m t) e differ = absurd (false≢true e)
+
 pub taken_name : (h : HeapState) (s : Site) (taken name : Name) → IsLawful h → taken.heap ≡ h.id → IsSiteOf h.blocks s → is_named taken.at taken.serial s ≡ true
     → contents (takes h s).heap name ≡ with_contents (contents h) taken None name
 taken_name h s taken name lawful own site is =
-    changes h (h.tick + 1) (coalesced h.tick s) None taken name own
-    (at_site h s name.at name.serial _ _ None site (by_block s.block (and_left _ _ is) (subst (λ (l : List Block). AreDistinct (serials l)) (sym site) lawful.serials_differ)))
-  where
-    at_place : place_of s ≡ taken.at
-    at_place = eqb-true _ _ (and_right (has_serial taken.serial s.block) _ is)
+    edited h s (h.tick + 1) taken name (λ b. coalesced h.tick (record { before = s.before; block = b; after = s.after })) (λ _. None) lawful own site is
+    (λ m t xs differ. look_taken name.at name.serial s.before s.after m t h.tick xs (own_front s.before s.after m t xs differ) (own_back s.before s.after m t xs differ))
 
-    by_block : (b : Block) → has_serial taken.serial b ≡ true → AreDistinct (serials (s.before ++ b ∷ s.after))
-        → look name.at name.serial 0 (coalesced h.tick (record { before = s.before; block = b; after = s.after }))
-        ≡ cond (eqb taken.serial name.serial && eqb taken.at name.at) None (look name.at name.serial 0 (s.before ++ b ∷ s.after))
-    by_block (Live m t xs) e differ =
-        let same : t ≡ taken.serial = eqb-true t taken.serial e in
-        rw (← same, ← at_place) (look_taken name.at name.serial s.before s.after m t h.tick xs (own_front s.before s.after m t xs differ) (own_back s.before s.after m t xs differ))
-    by_block (Free m t) e differ = absurd (false≢true e)
-
-pub written_name : (h : HeapState) (s : Site) (at : ℕ) (bytes : List ℕ) (own_name name : Name) → IsLawful h → own_name.heap ≡ h.id → named own_name h.blocks ≡ Some s
-    → contents (writes h at bytes s).heap name ≡ with_contents (contents h) own_name (Some (overwritten (bytes_of s.block) at bytes)) name
-written_name h s at bytes own_name name lawful own found =
-    changes h h.tick (s.before ++ with_bytes s.block new ∷ s.after) (Some new) own_name name own
-    (at_site h s name.at name.serial _ _ (Some new) site (by_block s.block (and_left _ _ is) (subst (λ (l : List Block). AreDistinct (serials l)) (sym site) lawful.serials_differ)))
-  where
-    new : List ℕ
-    new = overwritten (bytes_of s.block) at bytes
-
-    site : IsSiteOf h.blocks s
-    site = (named_site own_name h.blocks s found).0
-
-    is : is_named own_name.at own_name.serial s ≡ true
-    is = (named_site own_name h.blocks s found).1
-
-    at_place : place_of s ≡ own_name.at
-    at_place = eqb-true _ _ (and_right (has_serial own_name.serial s.block) _ is)
-
-    by_block : (b : Block) → has_serial own_name.serial b ≡ true → AreDistinct (serials (s.before ++ b ∷ s.after))
-        → look name.at name.serial 0 (s.before ++ with_bytes b new ∷ s.after)
-        ≡ cond (eqb own_name.serial name.serial && eqb own_name.at name.at) (Some new) (look name.at name.serial 0 (s.before ++ b ∷ s.after))
-    by_block (Live m t xs) e differ =
-        let same : t ≡ own_name.serial = eqb-true t own_name.serial e in
-        rw (← same, ← at_place) (look_with name.at name.serial s.before s.after m t xs new (own_front s.before s.after m t xs differ))
-    by_block (Free m t) e differ = absurd (false≢true e)
+pub written_name : (h : HeapState) (s : Site) (at : ℕ) (bytes : List ℕ) (own_name name : Name) → IsLawful h → own_name.heap ≡ h.id → IsSiteOf h.blocks s
+    → is_named own_name.at own_name.serial s ≡ true → contents (writes h at bytes s).heap name ≡ with_contents (contents h) own_name (Some (overwritten (bytes_of s.block) at bytes)) name
+written_name h s at bytes own_name name lawful own site is =
+    let new : List ℕ = overwritten (bytes_of s.block) at bytes in
+    edited h s h.tick own_name name (λ b. s.before ++ with_bytes b new ∷ s.after) (λ _. Some new) lawful own site is
+    (λ m t xs differ. look_with name.at name.serial s.before s.after m t xs new (own_front s.before s.after m t xs differ))
 
 pub resized_name : (h : HeapState) (s : Site) (own_name : Name) (len : ℕ) (name : Name) → IsLawful h → own_name.heap ≡ h.id → IsSiteOf h.blocks s → is_named own_name.at own_name.serial s ≡ true
-    → contents (refits h len s).heap name ≡ with_contents (contents h) own_name (Some (fitted (bytes_of s.block) len)) name
+    → contents (resizes h (want len) len s).heap name ≡ with_contents (contents h) own_name (Some (fitted (bytes_of s.block) len)) name
 resized_name h s own_name len name lawful own site is =
-    changes h (h.tick + 1) (s.before ++ refitted h.tick (want len) len s.block s.after) (Some (fitted (bytes_of s.block) len)) own_name name own
-    (at_site h s name.at name.serial _ _ (Some (fitted (bytes_of s.block) len)) site (by_block s.block (and_left _ _ is) (subst (λ (l : List Block). AreDistinct (serials l)) (sym site) lawful.serials_differ)))
-  where
-    at_place : place_of s ≡ own_name.at
-    at_place = eqb-true _ _ (and_right (has_serial own_name.serial s.block) _ is)
+    edited h s (h.tick + 1) own_name name (λ b. s.before ++ refitted h.tick (want len) len b s.after) (λ xs. Some (fitted xs len)) lawful own site is
+    (λ m t xs differ. look_refitted name.at name.serial s.before s.after m t h.tick (want len) len xs (own_front s.before s.after m t xs differ))
 
-    by_block : (b : Block) → has_serial own_name.serial b ≡ true → AreDistinct (serials (s.before ++ b ∷ s.after))
-        → look name.at name.serial 0 (s.before ++ refitted h.tick (want len) len b s.after)
-        ≡ cond (eqb own_name.serial name.serial && eqb own_name.at name.at) (Some (fitted (bytes_of b) len)) (look name.at name.serial 0 (s.before ++ b ∷ s.after))
-    by_block (Live m t xs) e differ =
-        let same : t ≡ own_name.serial = eqb-true t own_name.serial e in
-        rw (← same, ← at_place) (look_refitted name.at name.serial s.before s.after m t h.tick (want len) len xs (own_front s.before s.after m t xs differ))
-    by_block (Free m t) e differ = absurd (false≢true e)
+-- the bytes under the name of a block
+pub found_bytes : (h : HeapState) (own_name : Name) (s : Site) → IsLawful h → own_name.heap ≡ h.id → IsSiteOf h.blocks s → is_named own_name.at own_name.serial s ≡ true → contents h own_name ≡ Some (bytes_of s.block)
+found_bytes h own_name s lawful own site is =
+    subst (λ (bs : List Block). contents (record { id = h.id; words = h.words; tick = h.tick; blocks = bs }) own_name ≡ Some (bytes_of s.block)) site
+    (edited h s h.tick own_name own_name (λ b. s.before ++ b ∷ s.after) (λ xs. Some xs) lawful own site is
+    (λ m t xs differ. look_with own_name.at own_name.serial s.before s.after m t xs xs (own_front s.before s.after m t xs differ))
+    ∙ ap (λ (c : Bool). cond c (Some (bytes_of s.block)) (contents h own_name)) (same_self own_name))
 
 -- ---- the laws
 
--- the bytes under a name that a search finds
-pub found_bytes : (h : HeapState) (own_name : Name) (s : Site) → own_name.heap ≡ h.id → named own_name h.blocks ≡ Some s → contents h own_name ≡ Some (bytes_of s.block)
-found_bytes h own_name s own e = ap (λ (c : Bool). cond c (bytes_there (named own_name h.blocks)) None) (eq-eqb own_name.heap h.id own) ∙ ap bytes_there e
-
--- the answer of a write by the search for its name
 write_changes : (h : HeapState) (own_name : Name) (at : ℕ) (bytes : List ℕ) (name : Name) → IsLawful h
     → contents (written h own_name at bytes).heap name ≡ after (contents h) (Write own_name at bytes) (Written (written h own_name at bytes).answer) name
-write_changes h own_name at bytes name lawful = elim (cases_eq own_name.heap h.id) [
-  | inl own ↦
-      let test : eqb own_name.heap h.id ≡ true = eq-eqb own_name.heap h.id own in
-      let P : Outcome (Unit {0}) → Type 0 = λ o. contents o.heap name ≡ after (contents h) (Write own_name at bytes) (Written o.answer) name in
-      subst (λ (c : Bool). P (cond c (written_at h at bytes (named own_name h.blocks)) (refused h Foreign))) (sym test) (on own (named own_name h.blocks) refl)
-  | inr other ↦
-      let P : Outcome (Unit {0}) → Type 0 = λ o. contents o.heap name ≡ after (contents h) (Write own_name at bytes) (Written o.answer) name in
-      subst (λ (c : Bool). P (cond c (written_at h at bytes (named own_name h.blocks)) (refused h Foreign))) (sym (ne_eqb own_name.heap h.id other)) refl
-]
-  where
-    on : own_name.heap ≡ h.id → (o : Option Site) → named own_name h.blocks ≡ o
-        → contents (written_at h at bytes o).heap name ≡ after (contents h) (Write own_name at bytes) (Written (written_at h at bytes o).answer) name
-    on own None e = refl
-    on own (Some s) e =
-        by_test (λ (o : Outcome (Unit {0})). contents o.heap name ≡ after (contents h) (Write own_name at bytes) (Written o.answer) name) (has_bytes s.block at (length bytes)) (writes h at bytes s) (refused h Range)
-        (λ t. written_name h s at bytes own_name name lawful own e
-        ∙ ap (λ (o : Option (List ℕ)). with_contents (contents h) own_name (option_map (λ old. overwritten old at bytes) o) name) (sym (found_bytes h own_name s own e))) refl
+write_changes h own_name at bytes name lawful =
+    by_written_named (λ o. contents o.heap name ≡ after (contents h) (Write own_name at bytes) (Written o.answer) name) h own_name at bytes (λ why. refl) (λ s own site is has.
+    written_name h s at bytes own_name name lawful own site is
+    ∙ ap (λ (o : Option (List ℕ)). with_contents (contents h) own_name (option_map (λ old. overwritten old at bytes) o) name) (sym (found_bytes h own_name s lawful own site is)))
 
 pub change : (sli : ℕ) → ChangesOneName sli
 change sli h (Allocate len) name lawful =
@@ -305,47 +268,14 @@ change sli h (Release taken) name lawful =
     by_released (λ o. contents o.heap name ≡ after (contents h) (Release taken) (Released o.answer) name) h taken (λ why. refl) (λ s own site is. taken_name h s taken name lawful own site is)
 change sli h (Write own_name at bytes) name lawful = write_changes h own_name at bytes name lawful
 change sli h (Resize own_name len) name lawful =
-    by_resize (λ o. contents o.heap name ≡ after (contents h) (Resize own_name len) (Resized o.answer) name) h own_name len (λ why. refl) (λ s own e site is.
+    by_resized_words (λ o. contents o.heap name ≡ after (contents h) (Resize own_name len) (Resized o.answer) name) h own_name (want len) len (λ why. refl) (λ s own site is room.
     resized_name h s own_name len name lawful own site is
-    ∙ ap (λ (o : Option (List ℕ)). with_contents (contents h) own_name (option_map (λ old. fitted old len) o) name) (sym (found_bytes h own_name s own e)))
+    ∙ ap (λ (o : Option (List ℕ)). with_contents (contents h) own_name (option_map (λ old. fitted old len) o) name) (sym (found_bytes h own_name s lawful own site is)))
 change sli h (Read own_name at n) name lawful = refl
 
 -- equal maps stay equal
-after_same : (f g : Contents) → ((name : Name) → f name ≡ g name) → (call : Call) (answer : Answer) (name : Name) → after f call answer name ≡ after g call answer name
-after_same f g e (Allocate len) (Allocated (Ok own)) name = ap (λ (o : Option (List ℕ)). cond (is_same own name) (Some (replicate len 0)) o) (e name)
-after_same f g e (Allocate len) (Allocated (Err why)) name = e name
-after_same f g e (Allocate len) (Released r) name = e name
-after_same f g e (Allocate len) (Written r) name = e name
-after_same f g e (Allocate len) (Resized r) name = e name
-after_same f g e (Allocate len) (Got r) name = e name
-after_same f g e (Write own at bytes) (Written (Ok done)) name =
-    ap (λ (o : Option (List ℕ)). cond (is_same own name) (option_map (λ old. overwritten old at bytes) o) (f name)) (e own)
-    ∙ ap (λ (o : Option (List ℕ)). cond (is_same own name) (option_map (λ old. overwritten old at bytes) (g own)) o) (e name)
-after_same f g e (Write own at bytes) (Written (Err why)) name = e name
-after_same f g e (Write own at bytes) (Released r) name = e name
-after_same f g e (Write own at bytes) (Allocated r) name = e name
-after_same f g e (Write own at bytes) (Resized r) name = e name
-after_same f g e (Write own at bytes) (Got r) name = e name
-after_same f g e (Release own) (Released (Ok done)) name = ap (λ (o : Option (List ℕ)). cond (is_same own name) None o) (e name)
-after_same f g e (Release own) (Released (Err why)) name = e name
-after_same f g e (Release own) (Allocated r) name = e name
-after_same f g e (Release own) (Written r) name = e name
-after_same f g e (Release own) (Resized r) name = e name
-after_same f g e (Release own) (Got r) name = e name
-after_same f g e (Resize own len) (Resized (Ok done)) name =
-    ap (λ (o : Option (List ℕ)). cond (is_same own name) (option_map (λ old. fitted old len) o) (f name)) (e own)
-    ∙ ap (λ (o : Option (List ℕ)). cond (is_same own name) (option_map (λ old. fitted old len) (g own)) o) (e name)
-after_same f g e (Resize own len) (Resized (Err why)) name = e name
-after_same f g e (Resize own len) (Released r) name = e name
-after_same f g e (Resize own len) (Allocated r) name = e name
-after_same f g e (Resize own len) (Written r) name = e name
-after_same f g e (Resize own len) (Got r) name = e name
-after_same f g e (Read own at n) answer name = e name
-
 all_same : (f g : Contents) → ((name : Name) → f name ≡ g name) → (calls : List Call) (answers : List Answer) (name : Name) → after_all f calls answers name ≡ after_all g calls answers name
-all_same f g e [] answers name = e name
-all_same f g e (call ∷ calls) [] name = e name
-all_same f g e (call ∷ calls) (answer ∷ answers) name = all_same (after f call answer) (after g call answer) (after_same f g e call answer) calls answers name
+all_same f g e calls answers name = let same : f ≡ g = λ i other. e other i in ap (λ (m : Contents). after_all m calls answers name) same
 
 told : (sli : ℕ) (level : IsLevel sli) (h : HeapState) (calls : List Call) (name : Name) → IsLawful h → contents (run sli h calls).1 name ≡ after_all (contents h) calls (run sli h calls).0 name
 told sli level h [] name lawful = refl

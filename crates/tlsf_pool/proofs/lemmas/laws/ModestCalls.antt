@@ -1,17 +1,14 @@
 -- A heap that never refuses blocks of mixed sizes: what each call leaves of its bounds.
-use Rattle.tlsf_pool.proofs.Common.{◌≡◌, ◌≢◌, ℕ, ◌+◌, ◌-◌, ◌*◌, ◌<◌, ◌≤◌, ◌&&◌, max, Bool, true, false, cond, nat_le, List, [], ◌∷◌, ◌++◌, length, Option, Some, None, Err, refl, sym, ap, ap₂, ◌∙◌, subst, inl, inr, arith, AllByRecursion, mul-le-mul, mul-le-mul_right, false≢true, cases_lt, ne_eqb, le-leb, leb-true, lt-leb, IsLevel, most_words, Block, Live, Free, HeapState, size_of, words_in, want, Site, choice, fits, IsLawful, IsRegion, Outcome, Call, Allocate, Release, Write, Resize, Read, Allocated, allocated, allocated_at, refused, carved, before_free, with_bytes, has_serial, refitted, answered, opened, run, is_worn, last_tick, live_among, Name, NoFit, Worn, live_count, sure, held_after, HasFixedSize, WantsWords, mixed_region, mixed_words, HasMixedRegion, IsSmall, IsModest, AreModest, HasRoomFor, IsServed, MixedSizesSuffice, MixedSizesServe, RegionHasMixedWords}
-use Rattle.tlsf_heap.proofs.lemmas.blocks.Find.{and_left}
-use Rattle.tlsf_heap.proofs.lemmas.blocks.Lawful.{all_append, opened_lawful}
-use Rattle.tlsf_heap.proofs.lemmas.blocks.Replace.{carved_small, carved_large}
+use Rattle.tlsf_pool.proofs.Common.{◌≡◌, ◌≢◌, ℕ, ◌+◌, ◌-◌, ◌*◌, ◌<◌, ◌≤◌, ◌&&◌, max, Bool, true, false, cond, nat_le, List, [], ◌∷◌, length, Option, Some, None, Err, refl, sym, ap, ap₂, ◌∙◌, subst, inl, inr, arith, AllByRecursion, mul-le-mul, mul-le-mul_right, false≢true, cases_lt, ne_eqb, le-leb, leb-true, lt-leb, IsLevel, most_words, Block, Live, Free, HeapState, words_in, want, Site, choice, fits, IsLawful, IsRegion, Outcome, Call, Allocate, Release, Write, Resize, Read, Allocated, allocated, allocated_at, refused, with_bytes, answered, opened, run, is_worn, last_tick, live_among, Name, NoFit, Worn, live_count, sure, held_after, HasFixedSize, WantsWords, mixed_region, mixed_words, HasMixedRegion, IsSmall, IsModest, AreModest, HasRoomFor, IsServed, MixedSizesSuffice, MixedSizesServe, RegionHasMixedWords, bytes_of}
+use Rattle.tlsf_heap.proofs.lemmas.blocks.Lawful.{opened_lawful}
 use Rattle.tlsf_heap.proofs.lemmas.blocks.Sums.{words_apart}
-use Rattle.tlsf_heap.proofs.lemmas.calls.Outcomes.{by_test, gives, by_allocated, by_released, by_written, lawful_run}
+use Rattle.tlsf_heap.proofs.lemmas.calls.Outcomes.{by_test, gives, by_allocated, by_released, by_resized_words, by_written, lawful_run}
 use Rattle.tlsf_heap.proofs.lemmas.laws.NoFit.{no_fit}
 use Rattle.tlsf_pool.proofs.lemmas.laws.FreeRoom.{finds_room, sure_rises}
 use Rattle.tlsf_pool.proofs.lemmas.laws.FixedCalls.{wants_kept}
 use Rattle.tlsf_pool.proofs.lemmas.laws.FixedSize.{finds_fixed, new_fixed, sure_four}
-use Rattle.tlsf_pool.proofs.lemmas.laws.Around.{past_all, before_all, around_site, words_kept}
+use Rattle.tlsf_pool.proofs.lemmas.laws.Around.{words_kept, Suits, all_allocated, all_released, all_resized, all_written, requests_alone}
 use Rattle.tlsf_pool.proofs.lemmas.laws.Held.{held_is}
-use Rattle.tlsf_pool.proofs.lemmas.laws.Refits.{by_refit, by_resize}
 
 -- ---- live blocks of at most k words
 
@@ -23,21 +20,15 @@ live_small k [] all = omega arith
 live_small k (Live m s xs ∷ bs) all = let e = live_small k bs all.1 in let f = all.0 refl in omega arith
 live_small k (Free m s ∷ bs) all = live_small k bs all.1
 
-pub small_carved : (k size n tick len : ℕ) → n + 3 ≤ k → AreSmall k (carved size n tick len)
-small_carved k size n tick len h = elim (cases_lt size (n + 4)) [
-  | inl small ↦ subst (AreSmall k) (sym (carved_small size n tick len small)) ((λ _. omega arith), tt)
-  | inr large ↦ subst (AreSmall k) (sym (carved_large size n tick len large)) ((λ _. omega arith), ((λ f. absurd (false≢true (sym f))), tt))
-]
+pub free_small : (k m u : ℕ) → IsSmall k (Free m u)
+free_small k m u f = absurd (false≢true (sym f))
 
-small_with : (k : ℕ) (b : Block) (xs : List ℕ) → IsSmall k b → IsSmall k (with_bytes b xs)
-small_with k (Live m s ys) xs h = h
-small_with k (Free m s) xs h = h
+pub small_suits : (k least n len : ℕ) → n + 3 ≤ k → Suits (IsSmall k) least n len
+small_suits k least n len h m t xs enough few long = λ _. omega arith
 
-pub small_refitted : (k tick n len serial : ℕ) (b : Block) (bs : List Block) → n + 3 ≤ k → has_serial serial b ≡ true → AreSmall k bs → AreSmall k (refitted tick n len b bs)
-small_refitted k tick n len serial (Free m s) bs h e all = absurd (false≢true e)
-small_refitted k tick n len serial (Live m s xs) bs h e all =
-    let past = past_all (IsSmall k) bs all in
-    by_refit (AreSmall k) tick n len m s xs bs (λ enough few. ((λ _. omega arith), all)) (λ large. ((λ _. omega arith), ((λ f. absurd (false≢true (sym f))), past))) (λ small. ((λ _. omega arith), past))
+small_with : (k : ℕ) (b : Block) (xs : List ℕ) → length xs ≡ length (bytes_of b) → IsSmall k b → IsSmall k (with_bytes b xs)
+small_with k (Live m s ys) xs e h = h
+small_with k (Free m s) xs e h = h
 
 -- ---- what holds of such a heap
 
@@ -81,19 +72,10 @@ wants_four most len held (Read name at n) few modest = tt
 
 module _ (sli most len : ℕ) where
   pub small_kept : (h : HeapState) (call : Call) → AreSmall (want len + 3) h.blocks → IsModest most len (live_count h) call → AreSmall (want len + 3) (answered sli h call).1.blocks
-  small_kept h (Allocate n) small modest = by_allocated sli (λ o. AreSmall (want len + 3) o.heap.blocks) h n (λ why. small) (λ s site fit.
-      let a = around_site (IsSmall (want len + 3)) h s site small in
-      all_append (IsSmall (want len + 3)) (s.before ++ carved (size_of s.block) (want n) h.tick n) s.after
-      (all_append (IsSmall (want len + 3)) s.before (carved (size_of s.block) (want n) h.tick n) a.0 (small_carved (want len + 3) (size_of s.block) (want n) h.tick n (omega (arith, modest.0)))) a.2)
-  small_kept h (Release name) small modest = by_released (λ o. AreSmall (want len + 3) o.heap.blocks) h name (λ why. small) (λ s own site is.
-      let a = around_site (IsSmall (want len + 3)) h s site small in
-      all_append (IsSmall (want len + 3)) (before_free s.before) _ (before_all (IsSmall (want len + 3)) s.before a.0) ((λ f. absurd (false≢true (sym f))), past_all (IsSmall (want len + 3)) s.after a.2))
-  small_kept h (Write name at bytes) small modest = by_written (λ o. AreSmall (want len + 3) o.heap.blocks) h name at bytes (λ why. small) (λ s site has.
-      let a = around_site (IsSmall (want len + 3)) h s site small in
-      all_append (IsSmall (want len + 3)) s.before _ a.0 (small_with (want len + 3) s.block _ a.1, a.2))
-  small_kept h (Resize name n) small modest = by_resize (λ o. AreSmall (want len + 3) o.heap.blocks) h name n (λ why. small) (λ s own e site is.
-      let a = around_site (IsSmall (want len + 3)) h s site small in
-      all_append (IsSmall (want len + 3)) s.before _ a.0 (small_refitted (want len + 3) h.tick (want n) n name.serial s.block s.after (omega (arith, modest)) (and_left _ _ is) a.2))
+  small_kept h (Allocate n) small modest = all_allocated (IsSmall (want len + 3)) (free_small (want len + 3)) sli 0 h (want n) n (λ b fit. omega arith) (omega arith) (small_suits (want len + 3) 0 (want n) n (omega (arith, modest.0))) small
+  small_kept h (Release name) small modest = all_released (IsSmall (want len + 3)) (free_small (want len + 3)) h name small
+  small_kept h (Write name at bytes) small modest = all_written (IsSmall (want len + 3)) (free_small (want len + 3)) (small_with (want len + 3)) h name at bytes small
+  small_kept h (Resize name n) small modest = all_resized (IsSmall (want len + 3)) (free_small (want len + 3)) h name (want n) n (small_suits (want len + 3) (want n) (want n) n (omega (arith, modest))) small
   small_kept h (Read name at n) small modest = small
 
 module _ (sli : ℕ) (level : IsLevel sli) (words most len : ℕ) (region : want len ≤ most_words sli) (enough : mixed_words sli most len ≤ words) where
@@ -131,12 +113,8 @@ module _ (sli : ℕ) (level : IsLevel sli) (words most len : ℕ) (region : want
     | inr four ↦ fours_room h n mixed four short few ((no_fit sli h n).0 e)
   ]
 
-  not_refused : (h : HeapState) (call : Call) → InMixed words k h → IsModest most len (live_count h) call → (answered sli h call).0 ≢ Allocated (Err NoFit)
-  not_refused h (Allocate n) mixed modest = λ e. let same : (allocated sli h n).answer ≡ Err NoFit = cc in has_room h n mixed modest.0 modest.1 same
-  not_refused h (Release name) mixed modest = λ e. cc
-  not_refused h (Write name at bytes) mixed modest = λ e. cc
-  not_refused h (Resize name n) mixed modest = λ e. cc
-  not_refused h (Read name at n) mixed modest = λ e. cc
+  not_refused : (h : HeapState) (call : Call) → InMixed words k h → IsModest most len (live_count h) call → HasRoomFor (answered sli h call).0
+  not_refused h call mixed modest = requests_alone (IsModest most len (live_count h)) sli h call modest (λ n asked. has_room h n mixed asked.0 asked.1)
 
   next : (h : HeapState) (call : Call) (calls : List Call) → AreModest most len (held_after (live_count h) call (answered sli h call).0) calls (run sli (answered sli h call).1 calls).0
       → AreModest most len (live_count (answered sli h call).1) calls (run sli (answered sli h call).1 calls).0
@@ -152,7 +130,7 @@ module _ (sli : ℕ) (level : IsLevel sli) (words most len : ℕ) (region : want
   tick_kept h (Allocate n) = by_allocated sli (λ o. o.heap.tick ≤ h.tick + 1) h n (λ why. omega arith) (λ s site fit. omega arith)
   tick_kept h (Release name) = by_released (λ o. o.heap.tick ≤ h.tick + 1) h name (λ why. omega arith) (λ s own site is. omega arith)
   tick_kept h (Write name at bytes) = by_written (λ o. o.heap.tick ≤ h.tick + 1) h name at bytes (λ why. omega arith) (λ s site has. omega arith)
-  tick_kept h (Resize name n) = by_resize (λ o. o.heap.tick ≤ h.tick + 1) h name n (λ why. omega arith) (λ s own e site is. omega arith)
+  tick_kept h (Resize name n) = by_resized_words (λ o. o.heap.tick ≤ h.tick + 1) h name (want n) n (λ why. omega arith) (λ s own site is room. omega arith)
   tick_kept h (Read name at n) = omega arith
 
   pub is_served : (h : HeapState) (call : Call) → InMixed words k h → IsModest most len (live_count h) call → h.tick < last_tick → IsServed (answered sli h call).0

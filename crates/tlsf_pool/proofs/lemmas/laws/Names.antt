@@ -1,9 +1,7 @@
 -- Whether two names are the same.
 use Rattle.tlsf_pool.proofs.Common.{◌≡◌, Bool, true, false, refl, sym, ◌∙◌, subst, eq-eqb, eqb-true, false≢true, and_from, Name, is_same}
 use Rattle.tlsf_heap.proofs.lemmas.blocks.Find.{and_left, and_right, not_true}
-
-pub same_name : (a b : Name) → a.heap ≡ b.heap → a.at ≡ b.at → a.serial ≡ b.serial → a ≡ b
-same_name a b e f g = let is : ◌≡◌ {A = Name} (record { heap = a.heap; at = a.at; serial = a.serial }) (record { heap = b.heap; at = b.at; serial = b.serial }) = cc in is
+use Rattle.tlsf_heap.proofs.lemmas.laws.Live.{same_name}
 
 pub same_self : (name : Name) → is_same name name ≡ true
 same_self name = and_from _ _ (eq-eqb name.heap name.heap refl) (and_from _ _ (eq-eqb name.serial name.serial refl) (eq-eqb name.at name.at refl))

@@ -1,5 +1,5 @@
 -- Names by the sites of their blocks.
-use Rattle.tlsf_pool.proofs.Common.{◌≡◌, ℕ, ◌+◌, ◌<◌, ◌≤◌, true, List, [], ◌∷◌, length, take, refl, sym, ap, ◌∙◌, inl, inr, arith, eqb-true, cases_lt, false≢true, IsLevel, Block, Live, Free, HeapState, size_of, words_in, block_at, IsLawful, FreeBlocksAreApart, has_serial, opened, run, live_among, Name}
+use Rattle.tlsf_pool.proofs.Common.{◌≡◌, ℕ, ◌+◌, ◌<◌, ◌≤◌, true, List, [], ◌∷◌, length, take, refl, sym, ap, ◌∙◌, inl, inr, arith, eqb-true, cases_lt, IsLevel, Block, Live, Free, HeapState, size_of, words_in, block_at, IsLawful, FreeBlocksAreApart, has_serial, opened, run, live_among, Name}
 use Rattle.tlsf_heap.proofs.lemmas.blocks.Find.{and_left, and_right}
 use Rattle.tlsf_heap.proofs.lemmas.blocks.Around.{Around, block_around, stands_around}
 use Rattle.tlsf_heap.proofs.lemmas.blocks.Order.{ends_before}
@@ -9,7 +9,7 @@ use Rattle.tlsf_heap.proofs.lemmas.blocks.Lawful.{opened_lawful}
 use Rattle.tlsf_pool.specs.laws.Places.{Occupies, ShareNoWord, StayInside, NothingLeaks}
 use Rattle.tlsf_pool.proofs.lemmas.laws.Around.{words_run}
 use Rattle.tlsf_pool.proofs.lemmas.laws.Held.{holds}
-use Rattle.tlsf_pool.proofs.lemmas.laws.Names.{same_name}
+use Rattle.tlsf_heap.proofs.lemmas.laws.Live.{one_serial, same_name}
 
 alone : (bs : List Block) → FreeBlocksAreApart bs → live_among bs ≡ [] → 0 < words_in bs → (stamp : ℕ) × (bs ≡ Free (words_in bs) stamp ∷ [])
 alone [] a e h = absurd (omega arith)
@@ -51,14 +51,9 @@ stands h name words s =
 -- a block with an earlier index ends before the other begins
 earlier : (bs : List Block) (a b : Name) (m n i j : ℕ) (af ab bf bb : List Block) (x y : Block) → Stands bs a m i af ab x → Stands bs b n j bf bb y → i < j → a.at + m ≤ b.at
 earlier bs a b m n i j af ab bf bb x y s t l =
-    let ends = ends_before bs i j l (stands_around t.around).within in
     let at_i = stands_around s.around in
     let at_j = stands_around t.around in
-    omega (arith, ends, at_i.place, at_j.place, ap size_of (block_around s.around), s.sized)
-
-one_serial : (s t : ℕ) (b : Block) → has_serial s b ≡ true → has_serial t b ≡ true → s ≡ t
-one_serial s t (Live m u xs) g h = sym (eqb-true u s g) ∙ eqb-true u t h
-one_serial s t (Free m u) g h = absurd (false≢true g)
+    omega (arith, ends_before bs i j l (stands_around t.around).within, at_i.place, at_j.place, ap size_of (block_around s.around), s.sized)
 
 pub apart : ShareNoWord
 apart h a b m n s t ne =
@@ -73,8 +68,7 @@ apart h a b m n s t ne =
             let at_same : a.at ≡ b.at = sym (stands_around x.around).place ∙ ap (λ (i : ℕ). words_in (take i h.blocks)) e ∙ (stands_around y.around).place in
             let block_same : s.site.block ≡ t.site.block = sym (block_around x.around) ∙ ap (λ (i : ℕ). block_at h.blocks i) e ∙ block_around y.around in
             let serial_same : a.serial ≡ b.serial = one_serial a.serial b.serial t.site.block (rw block_same at x.serial) y.serial in
-            let heap_same : a.heap ≡ b.heap = s.own ∙ sym t.own in
-            absurd (ne (same_name a b heap_same at_same serial_same))
+            absurd (ne (same_name a b (s.own ∙ sym t.own) at_same serial_same))
       ]
     ]
 

@@ -1,14 +1,14 @@
 -- Many small blocks and one large one: what each call leaves of the reserve.
-use Rattle.tlsf_pool.proofs.Common.{◌≡◌, ◌≢◌, ℕ, ◌+◌, ◌-◌, ◌*◌, ◌<◌, ◌≤◌, ◌⊎◌, Bool, true, false, cond, max, nat_le, nat_lt, List, [], ◌∷◌, ◌++◌, length, map, fold, replicate, Err, refl, sym, ap, ◌∙◌, subst, inl, inr, arith, le_trans, AllByRecursion, mul-le-mul_right, cases_lt, false≢true, le-leb, leb-true, lt-ltb, le-ltb, length-replicate, IsLevel, class_of, most_words, Block, Live, Free, HeapState, size_of, words_in, bytes_of, is_free, want, Site, is_fit, IsLawful, HasRoom, Call, Allocate, Release, Write, Resize, Read, carved, allocated, answered, opened, run, has_serial, overwritten, live_among, free_among, NoFit, live_count, sure, IsSnug, HasRoomFor, IsModest, IsSmall, Inventory, lengths, inventory_after, AreOfKinds, ArePlanned, IsPlanned, count_in, table_words, used, longest_of, scattered_words, one_large_words, ResizesNone, OneLargeSuffices, Kind}
+use Rattle.tlsf_pool.proofs.Common.{◌≡◌, ◌≢◌, ℕ, ◌+◌, ◌-◌, ◌*◌, ◌<◌, ◌≤◌, ◌⊎◌, Bool, true, false, cond, max, nat_le, nat_lt, List, [], ◌∷◌, ◌++◌, length, map, fold, replicate, Err, refl, sym, ap, ◌∙◌, subst, inl, inr, arith, le_trans, AllByRecursion, mul-le-mul_right, cases_lt, false≢true, le-leb, leb-true, lt-ltb, le-ltb, length-replicate, IsLevel, class_of, most_words, Block, Live, Free, HeapState, size_of, words_in, bytes_of, is_free, want, Site, is_fit, IsLawful, HasRoom, Call, Allocate, Release, Write, Resize, Read, carved, allocated, answered, opened, run, overwritten, live_among, free_among, NoFit, live_count, sure, IsSnug, HasRoomFor, IsModest, IsSmall, Inventory, lengths, inventory_after, AreOfKinds, ArePlanned, IsPlanned, count_in, table_words, used, longest_of, scattered_words, one_large_words, ResizesNone, OneLargeSuffices, Kind}
 use Rattle.tlsf_class.proofs.ClassOfSize.{search_of-is, serves-from}
 use Rattle.tlsf_heap.proofs.lemmas.blocks.Replace.{carved_small, carved_large}
 use Rattle.tlsf_heap.proofs.lemmas.blocks.Find.{and_left}
-use Rattle.tlsf_heap.proofs.lemmas.blocks.Lawful.{all_weaker, opened_lawful}
+use Rattle.tlsf_heap.proofs.lemmas.blocks.Lawful.{all_weaker, opened_lawful, all_append}
 use Rattle.tlsf_heap.proofs.lemmas.calls.Outcomes.{IsSiteOf, by_released, by_written, lawful_run}
 use Rattle.tlsf_heap.proofs.lemmas.laws.NoFit.{no_fit}
 use Rattle.tlsf_heap.proofs.lemmas.blocks.Sums.{words_apart}
 use Rattle.tlsf_heap.proofs.lemmas.calls.Write.{length-overwritten, range_fits}
-use Rattle.tlsf_pool.proofs.lemmas.laws.Around.{around_site, words_kept}
+use Rattle.tlsf_pool.proofs.lemmas.laws.Around.{around_site, live_named, words_kept, requests_alone}
 use Rattle.tlsf_pool.proofs.lemmas.laws.Choices.{IsChosen, IsNoBetter, by_chosen, no_lower}
 use Rattle.tlsf_pool.proofs.lemmas.laws.Comb.{too_small}
 use Rattle.tlsf_pool.proofs.lemmas.laws.FreeRoom.{IsHole, few_free, holes_sum, holes_where_none, serves_sure, sure_is, sure_rises}
@@ -26,10 +26,6 @@ use Rattle.tlsf_pool.proofs.lemmas.laws.Tables.{best_least, all_used, counted_in
 all_longest : (best : ℕ) (kinds : List Kind) → AllByRecursion (λ kind. kind.len ≤ fold max best (map (λ kind. kind.len) kinds)) kinds
 all_longest best [] = tt
 all_longest best (kind ∷ kinds) = (omega (arith, best_least (max best kind.len) (map (λ kind. kind.len) kinds)), all_longest (max best kind.len) kinds)
-
-all_with : (P : Kind → Type 0) (smalls : List Kind) (large : Kind) → AllByRecursion P smalls → P large → AllByRecursion P (smalls ++ large ∷ [])
-all_with P [] large all is = (is, tt)
-all_with P (kind ∷ smalls) large all is = (all.0, all_with P smalls large all.1 is)
 
 words_with_large : (smalls : List Kind) (large : Kind) → large.most ≤ 1 → table_words (smalls ++ large ∷ []) ≤ table_words smalls + (want large.len + 3)
 words_with_large [] large few = let one_block = mul-le-mul_right (want large.len + 3) few in omega (arith, one_block)
@@ -49,8 +45,7 @@ short_none k kind (n ∷ lens) few = at (nat_le n kind.len) refl (short_none k k
   where
     at : (c : Bool) → nat_le n kind.len ≡ c → sum_of (large_one k) (short kind.len lens) ≡ 0 → sum_of (large_one k) (cond c (n ∷ short kind.len lens) (short kind.len lens)) ≡ 0
     at true is rest =
-        let within = leb-true n kind.len is in
-        let none : large_one k n ≡ 0 = ap (λ (c : Bool). cond c 1 0) (le-ltb k n (omega (arith, within, few))) in
+        let none : large_one k n ≡ 0 = ap (λ (c : Bool). cond c 1 0) (le-ltb k n (omega (arith, leb-true n kind.len is, few))) in
         omega (arith, rest, none)
     at false is rest = rest
 
@@ -155,7 +150,7 @@ module _ (sli : ℕ) (level : IsLevel sli) (words : ℕ) (smalls : List Kind) (l
   least_hole = let search = search_of-is sli level (outside + 1) classed in omega (arith, sure_is sli level (outside + 1) search.0 search.1, search.1.enough)
 
   all_lens : AllByRecursion (λ kind. kind.len ≤ large.len) kinds
-  all_lens = all_with (λ kind. kind.len ≤ large.len) smalls large (all_weaker (λ kind. kind.len ≤ k) (λ kind. kind.len ≤ large.len) (λ kind upto. omega (arith, upto, longer)) smalls (all_longest 0 smalls)) (omega arith)
+  all_lens = all_append (λ kind. kind.len ≤ large.len) smalls (large ∷ []) (all_weaker (λ kind. kind.len ≤ k) (λ kind. kind.len ≤ large.len) (λ kind upto. omega (arith, upto, longer)) smalls (all_longest 0 smalls)) (omega arith, tt)
 
   short_len : (n : ℕ) (lens : List ℕ) → AreOfKinds kinds (n ∷ lens) → n ≤ large.len
   short_len n lens fit = let has = has_kind kinds n lens fit in le_trans has.short (of_all (λ kind. kind.len ≤ large.len) (used kinds) has.kind has.of (all_used (λ kind. kind.len ≤ large.len) kinds all_lens))
@@ -214,8 +209,7 @@ module _ (sli : ℕ) (level : IsLevel sli) (words : ℕ) (smalls : List Kind) (l
       let none : load (large_one k) h.blocks ≡ 0 = is.0.agrees.totals (large_one k) ∙ none_large k n smalls large (lengths l) (all_longest 0 smalls) few long fit in
       let before = (around_site (λ b. length (bytes_of b) ≤ k) h s site (all_short k h.blocks none)).0 in
       let new = left_reserve h n s in
-      let size : size_of s.block ≡ m = ap size_of block in
-      omega (arith, is.1, old_reserve h s m t block site, reserve_short k s.before m before, new.0, new.1, new.3 long, size)
+      omega (arith, is.1, old_reserve h s m t block site, reserve_short k s.before m before, new.0, new.1, new.3 long, ap size_of block)
 
   -- a small block goes to another hole
   elsewhere : (h : HeapState) (l : Inventory) (n m t : ℕ) (s : Site) → InLarge h l → m < sure sli (outside + 1) → s.block ≡ Free m t → IsSiteOf h.blocks s → Keeps h n s
@@ -274,10 +268,6 @@ module _ (sli : ℕ) (level : IsLevel sli) (words : ℕ) (smalls : List Kind) (l
   reserve_kept h l (Allocate n) is planned none = by_chosen sli (λ o. words ≤ reserve k o.heap.blocks 0 + outside) h n (λ why. is.1) (λ s chosen. given h l n s is planned chosen)
   reserve_kept h l (Release name) is planned none = by_released (λ o. words ≤ reserve k o.heap.blocks 0 + outside) h name (λ why. is.1)
       (λ s own site named. omega (arith, is.1, reserve_released k h.tick h s (live_named name.serial s.block (and_left _ _ named)) site))
-    where
-      live_named : (serial : ℕ) (b : Block) → has_serial serial b ≡ true → is_free b ≡ false
-      live_named serial (Live m t xs) e = refl
-      live_named serial (Free m t) e = absurd (false≢true e)
   reserve_kept h l (Write name at bytes) is planned none = by_written (λ o. words ≤ reserve k o.heap.blocks 0 + outside) h name at bytes (λ why. is.1)
       (λ s site has. omega (arith, is.1, reserve_written k h s (overwritten (bytes_of s.block) at bytes) (length-overwritten (bytes_of s.block) bytes at (range_fits s.block at (length bytes) has)) site))
   reserve_kept h l (Resize name n) is planned none = absurd none
@@ -303,11 +293,7 @@ module _ (sli : ℕ) (level : IsLevel sli) (words : ℕ) (smalls : List Kind) (l
   )
 
   not_refused : (h : HeapState) (l : Inventory) (call : Call) → InLarge h l → IsPlanned kinds l call → HasRoomFor (answered sli h call).0
-  not_refused h l (Allocate n) is planned = λ e. let same : (allocated sli h n).answer ≡ Err NoFit = cc in has_room h l n is (short_len n (lengths l) planned) same
-  not_refused h l (Release name) is planned = λ e. cc
-  not_refused h l (Write name at bytes) is planned = λ e. cc
-  not_refused h l (Resize name n) is planned = λ e. cc
-  not_refused h l (Read name at n) is planned = λ e. cc
+  not_refused h l call is planned = requests_alone (IsPlanned kinds l) sli h call planned (λ n asked. has_room h l n is (short_len n (lengths l) asked))
 
   none_refused : (h : HeapState) (l : Inventory) (calls : List Call) → InLarge h l → AllByRecursion ResizesNone calls → ArePlanned kinds l calls (run sli h calls).0 → AllByRecursion HasRoomFor (run sli h calls).0
   none_refused h l [] is none planned = tt

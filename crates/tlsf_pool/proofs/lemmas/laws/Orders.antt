@@ -1,7 +1,7 @@
 -- The order of the kinds of a table doesn't change its words.
 use Rattle.tlsf_pool.proofs.Common.{◌≡◌, ℕ, ◌+◌, ◌-◌, ◌*◌, ◌&&◌, Bool, true, false, cond, List, [], ◌∷◌, ◌++◌, map, fold, max, nat_le, nat_lt, refl, ap, ◌∙◌, arith, list_all, want, sure, are_fours, count_in, table_words, used, words_with, OrderIsNothing, Kind}
 
-swap_sum : (a b n : ℕ) → a + (b + n) ≡ b + (a + n)
+pub swap_sum : (a b n : ℕ) → a + (b + n) ≡ b + (a + n)
 swap_sum a b n = omega arith
 
 swap_max : (n a b : ℕ) → max (max n a) b ≡ max (max n b) a

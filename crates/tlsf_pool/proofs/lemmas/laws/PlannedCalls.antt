@@ -5,7 +5,7 @@ use Rattle.tlsf_heap.proofs.lemmas.blocks.Sums.{words_apart}
 use Rattle.tlsf_heap.proofs.lemmas.calls.Outcomes.{lawful_run}
 use Rattle.tlsf_heap.proofs.lemmas.laws.NoFit.{no_fit}
 use Rattle.tlsf_heap.proofs.lemmas.blocks.Lawful.{opened_lawful}
-use Rattle.tlsf_pool.proofs.lemmas.laws.Around.{words_kept}
+use Rattle.tlsf_pool.proofs.lemmas.laws.Around.{words_kept, requests_alone}
 use Rattle.tlsf_pool.proofs.lemmas.laws.FreeRoom.{finds_room, sure_rises, wants, less}
 use Rattle.tlsf_pool.proofs.lemmas.laws.Held.{one, counted, held_is}
 use Rattle.tlsf_pool.proofs.lemmas.laws.Inventories.{Agrees, agrees_call, new_agrees, sum_of, sum_one}
@@ -56,8 +56,7 @@ pub is_short : (kinds : List Kind) (bs : List Block) (lens : List ℕ) (n : ℕ)
 is_short kinds bs lens n fours totals fit =
     let has : HasKind kinds n lens = has_kind kinds n lens fit in
     let short : has.kind.len ≤ 8 = of_all (λ kind. kind.len ≤ 8) (used kinds) has.kind has.of (all_short (used kinds) fours) in
-    let most : suc (length lens) ≤ count_in kinds = counted_in kinds (n ∷ lens) fit in
-    (le_trans has.short short, omega (arith, live_lengths bs lens totals, most))
+    (le_trans has.short short, omega (arith, live_lengths bs lens totals, counted_in kinds (n ∷ lens) fit))
   where
     all_short : (kinds : List Kind) → list_all (λ kind. nat_le kind.len 8) kinds ≡ true → AllByRecursion (λ kind. kind.len ≤ 8) kinds
     all_short [] all = tt
@@ -81,13 +80,8 @@ module _ (sli : ℕ) (level : IsLevel sli) (words : ℕ) (kinds : List Kind) (cl
   }
 
   not_refused : (h : HeapState) (l : Inventory) (call : Call) → InTable words h l → IsPlanned kinds l call → HasRoomFor (answered sli h call).0
-  not_refused h l (Allocate n) table planned = λ e.
-      let none : (allocated sli h n).answer ≡ Err NoFit = cc in
-      holes_room sli level h kinds (lengths l) n table.lawful table.snug classes table.agrees.totals planned (subst (λ (k : ℕ). resized_words sli kinds ≤ k) (sym table.words_are) large) none
-  not_refused h l (Release name) table planned = λ e. cc
-  not_refused h l (Write name at bytes) table planned = λ e. cc
-  not_refused h l (Resize name n) table planned = λ e. cc
-  not_refused h l (Read name at n) table planned = λ e. cc
+  not_refused h l call table planned = requests_alone (IsPlanned kinds l) sli h call planned (λ n asked.
+      holes_room sli level h kinds (lengths l) n table.lawful table.snug classes table.agrees.totals asked (subst (λ (k : ℕ). resized_words sli kinds ≤ k) (sym table.words_are) large))
 
   none_refused : (h : HeapState) (l : Inventory) (calls : List Call) → InTable words h l → ArePlanned kinds l calls (run sli h calls).0 → AllByRecursion HasRoomFor (run sli h calls).0
   none_refused h l [] table planned = tt

@@ -1,8 +1,7 @@
--- The result of a resize, by its cases: a refusal, or one of three edits of a live block and those after it.
-use Rattle.tlsf_pool.proofs.Common.{◌≡◌, ℕ, ◌+◌, ◌-◌, ◌<◌, ◌≤◌, ◌&&◌, Bool, true, false, cond, eqb, nat_le, nat_lt, List, [], ◌∷◌, ◌++◌, Option, Some, None, Ok, refl, arith, eqb-true, nat_tests, Block, Live, Free, HeapState, want, Site, Outcome, refused, is_worn, is_named, named, first_free, past_free, room_of, fitted, refitted, resized, resized_at, ticked, Name, Refusal, Foreign, Stale, Worn, NoRoom}
-use Rattle.tlsf_heap.proofs.lemmas.calls.Outcomes.{by_test, IsSiteOf, named_site}
+-- A live block and those after it, once it is resized, by its three cases.
+use Rattle.tlsf_pool.proofs.Common.{◌≡◌, ℕ, ◌+◌, ◌-◌, ◌<◌, ◌≤◌, ◌&&◌, Bool, true, false, cond, nat_le, nat_lt, List, [], ◌∷◌, ◌++◌, refl, arith, nat_tests, Block, Live, Free, first_free, past_free, fitted, refitted}
 
-whether : {X : Type 0} (P : X → Type 0) (b : Bool) (x y : X) → (b ≡ true → P x) → (b ≡ false → P y) → P (cond b x y)
+pub whether : {X : Type 0} (P : X → Type 0) (b : Bool) (x y : X) → (b ≡ true → P x) → (b ≡ false → P y) → P (cond b x y)
 whether P true x y f g = f refl
 whether P false x y f g = g refl
 
@@ -18,18 +17,3 @@ by_refit P tick n len size serial bytes after if_kept if_cut if_all =
     whether P (nat_le n size && nat_lt size (n + 4)) (Live size serial new ∷ after) _ (λ t. if_kept (grind (arith, nat_tests)) (grind (arith, nat_tests)))
     (λ _. whether (λ (l : List Block). P (l ++ past_free after)) (nat_le (n + 4) room) (Live n serial new ∷ Free (room - n) tick ∷ []) (Live room serial new ∷ [])
     (λ t. if_cut (grind (arith, nat_tests))) (λ t. if_all (grind (arith, nat_tests))))
-
-abbrev pub refits : HeapState → ℕ → Site → Outcome (Unit {0})
-refits h len s = record { answer = Ok tt; heap = ticked h (s.before ++ refitted h.tick (want len) len s.block s.after) }
-
-pub by_resize : (P : Outcome (Unit {0}) → Type 0) (h : HeapState) (name : Name) (len : ℕ) → ((why : Refusal) → P (refused h why))
-    → ((s : Site) → name.heap ≡ h.id → named name h.blocks ≡ Some s → IsSiteOf h.blocks s → is_named name.at name.serial s ≡ true → P (refits h len s)) → P (resized h name len)
-by_resize P h name len if_refused if_done =
-    by_test P (eqb name.heap h.id) (resized_at h (want len) len (named name h.blocks)) (refused h Foreign) (λ own. at (eqb-true name.heap h.id own) (named name h.blocks) refl) (if_refused Foreign)
-  where
-    at : name.heap ≡ h.id → (o : Option Site) → named name h.blocks ≡ o → P (resized_at h (want len) len o)
-    at own None e = if_refused Stale
-    at own (Some s) e =
-        let site = named_site name h.blocks s e in
-        by_test P (nat_lt (room_of s.block s.after) (want len)) (refused h NoRoom) (cond (is_worn h) (refused h Worn) (refits h len s)) (λ _. if_refused NoRoom)
-        (by_test P (is_worn h) (refused h Worn) (refits h len s) (λ _. if_refused Worn) (if_done s own e site.0 site.1))

@@ -1,49 +1,24 @@
 -- No live block has four words that it doesn't want.
-use Rattle.tlsf_pool.proofs.Common.{◌≡◌, ℕ, ◌+◌, ◌*◌, ◌≤◌, true, List, [], ◌∷◌, ◌++◌, length, replicate, sym, subst, inl, inr, arith, AllByRecursion, length-replicate, cases_lt, false≢true, IsLevel, Block, Live, Free, HeapState, size_of, words_in, bytes_of, want, Call, Allocate, Release, Write, Resize, Read, carved, before_free, with_bytes, has_serial, refitted, answered, opened, run, IsLawful, live_among, IsSnug, BlocksAreSnug, wanted_words, SumSuffices}
-use Rattle.tlsf_heap.proofs.lemmas.blocks.Replace.{carved_small, carved_large}
-use Rattle.tlsf_heap.proofs.lemmas.blocks.Lawful.{all_append, opened_lawful}
+use Rattle.tlsf_pool.proofs.Common.{◌≡◌, ℕ, ◌+◌, ◌*◌, ◌≤◌, List, [], ◌∷◌, length, arith, AllByRecursion, IsLevel, Block, Live, Free, HeapState, words_in, bytes_of, want, Call, Allocate, Release, Write, Resize, Read, with_bytes, answered, opened, run, IsLawful, live_among, IsSnug, BlocksAreSnug, wanted_words, SumSuffices}
+use Rattle.tlsf_heap.proofs.lemmas.blocks.Lawful.{opened_lawful}
 use Rattle.tlsf_heap.proofs.lemmas.blocks.Sums.{words_apart}
-use Rattle.tlsf_heap.proofs.lemmas.blocks.Find.{and_left}
-use Rattle.tlsf_heap.proofs.lemmas.calls.Write.{length-overwritten, range_fits}
-use Rattle.tlsf_heap.proofs.lemmas.calls.Outcomes.{by_allocated, by_released, by_written, lawful_run}
+use Rattle.tlsf_heap.proofs.lemmas.calls.Outcomes.{lawful_run}
 use Rattle.tlsf_heap.proofs.lemmas.laws.NoFit.{no_fit}
-use Rattle.tlsf_heap.proofs.lemmas.words.NewBytes.{length-fitted}
 use Rattle.tlsf_pool.proofs.lemmas.laws.FreeRoom.{finds_room}
-use Rattle.tlsf_pool.proofs.lemmas.laws.Around.{around_site, past_all, before_all, words_run}
-use Rattle.tlsf_pool.proofs.lemmas.laws.Refits.{by_refit, by_resize}
+use Rattle.tlsf_pool.proofs.lemmas.laws.Around.{words_run, Suits, all_allocated, all_released, all_resized, all_written}
 
-snug_carved : (size tick len : ℕ) → AllByRecursion IsSnug (carved size (want len) tick len)
-snug_carved size tick len =
-    let many : length (replicate {A = ℕ} len 0) ≡ len = length-replicate len 0 in
-    elim (cases_lt size (want len + 4)) [
-      | inl small ↦ subst (AllByRecursion IsSnug) (sym (carved_small size (want len) tick len small)) (rw many (omega arith), tt)
-      | inr large ↦ subst (AllByRecursion IsSnug) (sym (carved_large size (want len) tick len large)) (rw many (omega arith), (tt, tt))
-    ]
+snug_suits : (least len : ℕ) → Suits IsSnug least (want len) len
+snug_suits least len m t xs enough few long = rw long (omega arith)
 
 snug_with : (b : Block) (xs : List ℕ) → length xs ≡ length (bytes_of b) → IsSnug b → IsSnug (with_bytes b xs)
 snug_with (Live m s ys) xs e h = rw e h
 snug_with (Free m s) xs e h = tt
 
-snug_refitted : (tick len serial : ℕ) (b : Block) (bs : List Block) → has_serial serial b ≡ true → AllByRecursion IsSnug bs → AllByRecursion IsSnug (refitted tick (want len) len b bs)
-snug_refitted tick len serial (Free m s) bs e all = absurd (false≢true e)
-snug_refitted tick len serial (Live m s xs) bs e all =
-    let many = length-fitted xs len in
-    let past = past_all IsSnug bs all in
-    by_refit (AllByRecursion IsSnug) tick (want len) len m s xs bs (λ enough few. (rw many (omega arith), all)) (λ large. (rw many (omega arith), (tt, past))) (λ small. (rw many (omega arith), past))
-
 pub snug_kept : (sli : ℕ) (h : HeapState) (call : Call) → AllByRecursion IsSnug h.blocks → AllByRecursion IsSnug (answered sli h call).1.blocks
-snug_kept sli h (Allocate n) all = by_allocated sli (λ o. AllByRecursion IsSnug o.heap.blocks) h n (λ why. all) (λ s site fit.
-    let a = around_site IsSnug h s site all in
-    all_append IsSnug (s.before ++ carved (size_of s.block) (want n) h.tick n) s.after (all_append IsSnug s.before _ a.0 (snug_carved (size_of s.block) h.tick n)) a.2)
-snug_kept sli h (Release name) all = by_released (λ o. AllByRecursion IsSnug o.heap.blocks) h name (λ why. all) (λ s own site is.
-    let a = around_site IsSnug h s site all in
-    all_append IsSnug (before_free s.before) _ (before_all IsSnug s.before a.0) (tt, past_all IsSnug s.after a.2))
-snug_kept sli h (Write name at bytes) all = by_written (λ o. AllByRecursion IsSnug o.heap.blocks) h name at bytes (λ why. all) (λ s site has.
-    let a = around_site IsSnug h s site all in
-    all_append IsSnug s.before _ a.0 (snug_with s.block _ (length-overwritten (bytes_of s.block) bytes at (range_fits s.block at (length bytes) has)) a.1, a.2))
-snug_kept sli h (Resize name len) all = by_resize (λ o. AllByRecursion IsSnug o.heap.blocks) h name len (λ why. all) (λ s own e site is.
-    let a = around_site IsSnug h s site all in
-    all_append IsSnug s.before _ a.0 (snug_refitted h.tick len name.serial s.block s.after (and_left _ _ is) a.2))
+snug_kept sli h (Allocate n) all = all_allocated IsSnug (λ m u. tt) sli 0 h (want n) n (λ b fit. omega arith) (omega arith) (snug_suits 0 n) all
+snug_kept sli h (Release name) all = all_released IsSnug (λ m u. tt) h name all
+snug_kept sli h (Write name at bytes) all = all_written IsSnug (λ m u. tt) snug_with h name at bytes all
+snug_kept sli h (Resize name len) all = all_resized IsSnug (λ m u. tt) h name (want len) len (snug_suits (want len) len) all
 snug_kept sli h (Read name at n) all = all
 
 snug_run : (sli : ℕ) (h : HeapState) (calls : List Call) → AllByRecursion IsSnug h.blocks → AllByRecursion IsSnug (run sli h calls).1.blocks

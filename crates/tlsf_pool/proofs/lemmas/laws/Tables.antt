@@ -13,11 +13,11 @@ short k lens = filter (λ n. nat_le n k) lens
 abbrev pub long : ℕ → List ℕ → List ℕ
 long k lens = filter (λ n. nat_lt k n) lens
 
-abbrev Add : Bool → ℕ → List ℕ → List ℕ
+abbrev pub Add : Bool → ℕ → List ℕ → List ℕ
 Add c n lens = cond c (n ∷ lens) lens
 
 -- a length is short or long
-parted : (k n : ℕ) → ((n ≤ k) × (nat_le n k ≡ true) × (nat_lt k n ≡ false)) ⊎ ((k < n) × (nat_le n k ≡ false) × (nat_lt k n ≡ true))
+pub parted : (k n : ℕ) → ((n ≤ k) × (nat_le n k ≡ true) × (nat_lt k n ≡ false)) ⊎ ((k < n) × (nat_le n k ≡ false) × (nat_lt k n ≡ true))
 parted k n = elim (cases_lt k n) [ inl l ↦ inr (l, lt-leb n k l, lt-ltb k n l) | inr g ↦ inl (g, le-leb n k g, le-ltb k n g) ]
 
 into : (a b c d : ℕ) → b ≡ c + d → a + b ≡ a + c + d
@@ -139,8 +139,7 @@ pub most_of : (f : Kind → ℕ) (kinds : List Kind) (best : ℕ) (kind : Kind) 
 most_of f [] best kind of = absurd of
 most_of f (k ∷ kinds) best kind of = elim of [
   | inl same ↦
-      let e = best_least (max best (f k)) (map f kinds) in
-      le_trans (subst (λ (x : Kind). f x ≤ max best (f k)) same (top best (f k))) e
+      le_trans (subst (λ (x : Kind). f x ≤ max best (f k)) same (top best (f k))) (best_least (max best (f k)) (map f kinds))
   | inr rest ↦ most_of f kinds (max best (f k)) kind rest
 ]
   where

@@ -77,7 +77,8 @@ abbrev holes : (k n t tick : ℕ) → List Block
 holes k zero t tick = []
 holes k (suc n) t tick = Free k tick ∷ Live 4 (t + 1) [] ∷ holes k n (t + 1 + 1) (tick + 1)
 
-wants : (k : ℕ) → 4 ≤ k → want (8 * (k - 3)) ≡ k
+-- a payload of this many bytes wants k words
+pub wants : (k : ℕ) → 4 ≤ k → want (8 * (k - 3)) ≡ k
 wants k least = omega (arith, least)
 
 -- ---- a release between live blocks

@@ -1,9 +1,9 @@
 -- The clauses of a table's calls.
-use Rattle.tlsf_pool.proofs.Common.{◌≡◌, ◌≢◌, ℕ, zero, suc, ◌+◌, ◌-◌, ◌<◌, ◌≤◌, ◌↔◌, List, [], ◌∷◌, length, get_or, set, Option, Some, None, Ok, Err, refl, sym, ap, ◌∙◌, subst, inl, inr, arith, le_trans, sum, IsSomeAnd, slice_index, cases_lt, HeapState, bytes_of, want, payload_words_at, block_at, IsGrant, live_among, named, released, Name, NoFit, fixed_size, AreOfKinds, count_in, HasPlace, HoldsOneMore, IsFull, IsTable, TableRows, held_of, lengths_in, most_at, row_of, table_allocated}
+use Rattle.tlsf_pool.proofs.Common.{◌≡◌, ◌≢◌, ℕ, zero, suc, ◌+◌, ◌-◌, ◌<◌, ◌≤◌, ◌↔◌, List, [], ◌∷◌, length, get_or, set, Option, Some, None, Ok, Err, refl, sym, ap, ◌∙◌, subst, inl, inr, arith, le_trans, sum, IsSomeAnd, slice_index, cases_lt, HeapState, bytes_of, want, payload_words_at, block_at, IsGrant, live_among, named, released, Name, NoFit, fixed_size, AreOfKinds, count_in, HasPlace, HoldsOneMore, IsFull, IsTable, TableRows, held_of, lengths_in, most_at, row_of, table_allocated, get_or-set_same}
 use Rattle.tlsf_heap.specs.InPlace.{payload_of}
 use Rattle.tlsf_heap.specs.Named.{IsNamed}
 use Rattle.tlsf_heap.proofs.lemmas.calls.Alter.{payload_is}
-use Rattle.tlsf_pool.proofs.lemmas.pools.RowTotals.{HasOneMore, fit_less, fit_more, held_few, held_length, held_more, held_sum, none, place, row_is, row_within, same_held, this_row}
+use Rattle.tlsf_pool.proofs.lemmas.pools.RowTotals.{HasOneMore, fit_less, fit_more, held_few, held_length, held_more, held_sum, none, place, row_is, row_within, same_held}
 use Rattle.tlsf_pool.proofs.lemmas.pools.TableKept.{given_table, taken_fit, taken_lengths, taken_table}
 use Rattle.tlsf_pool.proofs.lemmas.laws.PlannedCalls.{live_lengths}
 use Rattle.tlsf_pool.proofs.lemmas.pools.Served.{fits_longest, four, has_room, lengths_load, longest_used, modest, no_longer}
@@ -25,11 +25,6 @@ module _ {X : Type 0} (P : X → Type 0) where
   some_of (Some x) p = (x, refl, p)
 
 -- ---- a count one higher
-
-pub set_here : (xs : List ℕ) (i v : ℕ) → i < length xs → get_or (set xs i v) i 0 ≡ v
-set_here [] i v within = absurd (omega (arith, within))
-set_here (x ∷ xs) zero v within = refl
-set_here (x ∷ xs) (suc i) v within = set_here xs i v (this_row _ _ within)
 
 -- where one count goes up by one, they were the same before
 pub same_but_one : (xs ys : List ℕ) (i : ℕ) → set xs i (get_or xs i 0 + 1) ≡ set ys i (get_or ys i 0 + 1) → xs ≡ ys
@@ -121,7 +116,7 @@ module _ (sli : ℕ) (h : HeapState) (t : TableRows) (is : IsTable sli h t) wher
       let p : ℕ = place t.kinds n in
       let counts : t.held ≡ set (held_of t.kinds left) p (get_or (held_of t.kinds left) p 0 + 1) = is.held ∙ (sym (same_held t.kinds (n ∷ left) (lengths_in h.blocks) (taken_lengths h name answer)) ∙ held_more t.kinds n left) in
       let within : p < length (held_of t.kinds left) = subst (λ (m : ℕ). p < m) (sym (held_length t.kinds left)) has.0 in
-      let here : get_or t.held p 0 ≡ get_or (held_of t.kinds left) p 0 + 1 = ap (λ (xs : List ℕ). get_or xs p 0) counts ∙ set_here (held_of t.kinds left) p (get_or (held_of t.kinds left) p 0 + 1) within in
+      let here : get_or t.held p 0 ≡ get_or (held_of t.kinds left) p 0 + 1 = ap (λ (xs : List ℕ). get_or xs p 0) counts ∙ get_or-set_same (held_of t.kinds left) p (get_or (held_of t.kinds left) p 0 + 1) 0 within in
       subst (λ (m : ℕ). IsSomeAnd (row_of t.kinds m) (λ (row : ℕ). (row < length t.held) × (0 < slice_index t.held row))) (sym same)
       (of_some (λ (row : ℕ). (row < length t.held) × (0 < slice_index t.held row)) (row_of t.kinds n) p (row_within t.kinds n has.0) (subst (λ (m : ℕ). p < m) (sym as_long) has.0, omega (arith, here)))
 

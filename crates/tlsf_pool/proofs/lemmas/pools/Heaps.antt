@@ -1,7 +1,7 @@
 -- Several heaps stay heaps for the parts of a table, whichever of them a call changes.
-use Rattle.tlsf_pool.proofs.Common.{◌≡◌, ◌≢◌, ℕ, zero, suc, ◌+◌, ◌-◌, ◌<◌, ◌≤◌, ◌↔◌, ◌&&◌, Bool, true, false, cond, List, [], ◌∷◌, length, get_or, set, nat_le, nat_lt, Option, Some, None, Result, Ok, Err, refl, sym, ap, ◌∙◌, subst, inl, inr, arith, AllByRecursion, IfSome, IsOk, IsSomeAnd, OnOk, is_some, cases_lt, false≢true, le-ltb, lt-ltb, position_or_len_is, nat_tests, HeapState, payload_words_given, Name, PoolRefusal, IsTabled, TableState, row_of, ArePools, PoolsState, named_in, no_part, part_at, part_in}
+use Rattle.tlsf_pool.proofs.Common.{◌≡◌, ◌≢◌, ℕ, zero, suc, ◌+◌, ◌-◌, ◌<◌, ◌≤◌, ◌↔◌, ◌&&◌, Bool, true, false, cond, List, [], ◌∷◌, length, get_or, set, nat_le, nat_lt, Option, Some, None, Result, Ok, Err, refl, sym, ap, ◌∙◌, subst, inl, inr, arith, AllByRecursion, IfSome, IsOk, IsSomeAnd, OnOk, is_some, cases_lt, false≢true, le-ltb, lt-ltb, position_or_len_is, nat_tests, HeapState, payload_words_given, Name, PoolRefusal, IsTabled, TableState, row_of, ArePools, PoolsState, named_in, no_part, part_at, part_in, length-set, get_or-set_same}
 use Rattle.std.proofs.lemmas.List.Quantifiers.{position-Some}
-use Rattle.tlsf_pool.proofs.lemmas.pools.RowTotals.{this_row}
+use Rattle.std.proofs.lemmas.List.{get_or_default, set-get_or}
 
 -- ---- one of a list
 
@@ -17,46 +17,26 @@ number_set (x ∷ xs) zero (suc j) t d same = refl
 number_set (x ∷ xs) (suc i) zero t d same = refl
 number_set (x ∷ xs) (suc i) (suc j) t d same = number_set xs i j t d same
 
-length_set : (xs : List TableState) (i : ℕ) (t : TableState) → length (set xs i t) ≡ length xs
-length_set [] i t = refl
-length_set (x ∷ xs) zero t = refl
-length_set (x ∷ xs) (suc i) t = ap suc (length_set xs i t)
-
-at_set : (xs : List TableState) (i : ℕ) (t d : TableState) → i < length xs → get_or (set xs i t) i d ≡ t
-at_set [] i t d within = absurd (omega (arith, within))
-at_set (x ∷ xs) zero t d within = refl
-at_set (x ∷ xs) (suc i) t d within = at_set xs i t d (this_row _ _ within)
-
-pub any_else : (xs : List TableState) (i : ℕ) (d e : TableState) → i < length xs → get_or xs i d ≡ get_or xs i e
-any_else [] i d e within = absurd (omega (arith, within))
-any_else (x ∷ xs) zero d e within = refl
-any_else (x ∷ xs) (suc i) d e within = any_else xs i d e (this_row _ _ within)
-
 -- the heap at a part is the one that was read
 pub is_part : (p : PoolsState) (i : ℕ) (t : TableState) → i < length p.parts → t ≡ get_or p.parts i t → t ≡ part_at p i
-is_part p i t within is = is ∙ any_else p.parts i t no_part within
+is_part p i t within is = is ∙ get_or_default p.parts i t no_part within
 
 -- and then the one that was put there
 pub new_part : (p : PoolsState) (i : ℕ) (t : TableState) → i < length p.parts → t ≡ part_at (record { id = p.id; parts = set p.parts i t; extent = p.extent }) i
-new_part p i t within = sym (at_set p.parts i t no_part within)
+new_part p i t within = sym (get_or-set_same p.parts i t no_part within)
 
 -- where the one that was read is put back, all are as they were
-set_itself : (xs : List TableState) (i : ℕ) (d : TableState) → i < length xs → set xs i (get_or xs i d) ≡ xs
-set_itself [] i d within = absurd (omega (arith, within))
-set_itself (x ∷ xs) zero d within = refl
-set_itself (x ∷ xs) (suc i) d within = ap (λ (ts : List TableState). x ∷ ts) (set_itself xs i d (this_row _ _ within))
-
 pub put_back : (p : PoolsState) (i : ℕ) (old new : TableState) → i < length p.parts → old ≡ get_or p.parts i old → new ≡ old → record { id = p.id; parts = set p.parts i new; extent = p.extent } ≡ p
 put_back p i old new within is same =
     ap (λ (t : TableState). record { id = p.id; parts = set p.parts i t; extent = p.extent }) (same ∙ is_part p i old within is)
-    ∙ ap (λ (ts : List TableState). record { id = p.id; parts = ts; extent = p.extent }) (set_itself p.parts i no_part within)
+    ∙ ap (λ (ts : List TableState). record { id = p.id; parts = ts; extent = p.extent }) (set-get_or p.parts i no_part)
 
 -- so all are heaps for their tables, as before
 pub kept : (sli : ℕ) (p : PoolsState) (i : ℕ) (t : TableState) → ArePools sli p → IsTabled sli t → t.heap.id ≡ (part_at p i).heap.id → ArePools sli (record { id = p.id; parts = set p.parts i t; extent = p.extent })
 kept sli p i t are is same = record {
   tables = all_set (IsTabled sli) p.parts i t are.tables is;
-  numbers = λ j within. number_set p.parts i j t no_part same ∙ are.numbers j (subst (λ (n : ℕ). j < n) (length_set p.parts i t) within);
-  few = subst (λ (n : ℕ). n ≤ 8) (sym (length_set p.parts i t)) are.few;
+  numbers = λ j within. number_set p.parts i j t no_part same ∙ are.numbers j (subst (λ (n : ℕ). j < n) (length-set p.parts i t) within);
+  few = subst (λ (n : ℕ). n ≤ 8) (sym (length-set p.parts i t)) are.few;
 }
 
 -- ---- an allocate by its answer
@@ -113,7 +93,7 @@ module _ (parts : List TableState) (len at : ℕ) where
 
   -- whether the part that was read has a row
   pub has_at : (t : TableState) (b : Bool) → at < length parts → t ≡ get_or parts at t → is_some (row_of t.ledger.kinds len) ≡ b → Has at b
-  has_at t b within is serves = subst (λ (x : TableState). is_some (row_of x.ledger.kinds len) ≡ b) (is ∙ any_else parts at t no_part within) serves
+  has_at t b within is serves = subst (λ (x : TableState). is_some (row_of x.ledger.kinds len) ≡ b) (is ∙ get_or_default parts at t no_part within) serves
 
   pub none_before : ((k : ℕ) → k < at → Has k false) → Has at false → (k : ℕ) → k < at + 1 → Has k false
   none_before before here k below = elim (cases_lt k at) [ inl less ↦ before k less | inr above ↦ subst (λ (i : ℕ). Has i false) (omega (arith, below, above)) here ]

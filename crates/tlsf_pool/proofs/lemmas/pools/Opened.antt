@@ -2,6 +2,7 @@
 use Rattle.tlsf_pool.proofs.Common.{◌≡◌, ℕ, zero, suc, ◌+◌, ◌-◌, ◌<◌, ◌≤◌, List, [], ◌∷◌, ◌++◌, length, replicate, get_or, take, drop, min, refl, sym, ap, ◌∙◌, subst, arith, append_assoc, add-zero, length-append, length-drop, AllByRecursion, HeapState, opened, fixed_kinds_words, Kind, Rises, IsLeast, IsPart, HasWords, cut_by, parts_of, Split, IsTabled, TableState, AreNew, ArePools, IsNew, no_part}
 use Rattle.tlsf_heap.specs.Memory.{Extent}
 use Rattle.tlsf_pool.proofs.lemmas.sizes.Risings.{parts_rise}
+use Rattle.tlsf_heap.proofs.lemmas.blocks.Lawful.{all_append}
 
 module _ (sli first : ℕ) where
   -- one more after the others
@@ -29,10 +30,6 @@ module _ (sli first : ℕ) where
       let next : from + 1 + i ≡ from + suc i = omega arith in
       let rest = numbered (from + 1) tables parts are.1 i (omega (arith, within)) in
       rest ∙ next
-
-all_more : (P : TableState → Type 0) (xs : List TableState) (t : TableState) → AllByRecursion P xs → P t → AllByRecursion P (xs ++ t ∷ [])
-all_more P [] t all one = (one, tt)
-all_more P (x ∷ xs) t all one = (all.0, all_more P xs t all.1 one)
 
 take_least : (n : ℕ) (xs : List Kind) → take (min n (length xs)) xs ≡ take n xs
 take_least zero [] = refl
@@ -75,7 +72,7 @@ module _ (sli id first : ℕ) (all : List (List Kind)) (lens : List ℕ) (rest :
         done = so_far.done ++ take len rest ∷ [];
         whole = so_far.whole ∙ sym (append_assoc so_far.done (take len rest ∷ []) (cut_by k lens (drop len rest)));
         are = new_more sli first id so_far.done parts (take len rest) t so_far.are placed;
-        tables = all_more (IsTabled sli) parts t so_far.tables is;
+        tables = all_append (IsTabled sli) parts (t ∷ []) so_far.tables (is, tt);
         few = fewer;
         cut = so_far.cut.1;
         rise = so_far.rise.1;
@@ -120,18 +117,5 @@ new_pools sli id first kinds split parts extent is are tables = record {
 pub cut_rises : (sli heaps : ℕ) (kinds : List Kind) (split : Split) → IsLeast sli heaps kinds split → Rises kinds → AllByRecursion Rises (parts_of split kinds)
 cut_rises sli heaps kinds split is rises = parts_rise (parts_of split kinds) (subst Rises (sym is.cut.0) rises)
 
--- there are as many parts as heaps
-pub many_parts : (heaps : ℕ) (lens : List ℕ) (kinds : List Kind) → length (cut_by heaps lens kinds) ≡ heaps
-many_parts zero lens kinds = refl
-many_parts (suc h) lens kinds = ap suc (many_parts h lens (drop (get_or lens h 0) kinds))
-
 pub length_more : (parts : List TableState) (t : TableState) (n : ℕ) → length parts ≡ n → length (parts ++ t ∷ []) ≡ n + 1
 length_more parts t n many = omega (arith, length-append parts (t ∷ []), many)
-
--- all that stands after this many
-pub behind_all : (n : ℕ) (xs : List Kind) → take (length xs - n) (drop n xs) ≡ drop n xs
-behind_all n xs = ap (λ (m : ℕ). take m (drop n xs)) (sym (length-drop n xs)) ∙ take_whole (drop n xs)
-  where
-    take_whole : (ys : List Kind) → take (length ys) ys ≡ ys
-    take_whole [] = refl
-    take_whole (y ∷ ys) = ap (λ (rest : List Kind). y ∷ rest) (take_whole ys)

@@ -22,8 +22,7 @@ new_pool sli id most longest first h level class is =
 -- the words of one block or more are those of this many
 pub whole_words : (s most words : ℕ) → 4 ≤ s → 0 < most → words ≡ max 4 (most * s) → IsMultiple s words
 whole_words s most words four some is =
-    let one = mul-le-mul_right s (next most some) in
-    (most, omega (arith, is, one, four))
+    (most, omega (arith, is, mul-le-mul_right s (next most some), four))
   where
     next : (n : ℕ) → 0 < n → 1 ≤ n
     next n h = omega (arith, h)

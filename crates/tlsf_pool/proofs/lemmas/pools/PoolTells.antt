@@ -1,12 +1,9 @@
 -- The facts that the answers of a pool tell, and those that all answers within bounds do.
-use Rattle.tlsf_pool.proofs.Common.{◌≡◌, ℕ, ◌-◌, ◌<◌, ◌≤◌, ◌↔◌, [], Bool, true, false, cond, Result, Ok, Err, IfOk, IsErrOf, IsOk, refl, sym, subst, arith, nat_lt, nat_le, false≢true, nat_tests, HeapState, allocated_words, fits, last_tick, named, payload_words_at, payload_words_given, want, Name, Refusal, PoolRefusal, TooLong, Full, sure, Bounds, IsPool, TellsBounds, answered_within, or_worn, pool_allocated}
+use Rattle.tlsf_pool.proofs.Common.{◌≡◌, ℕ, ◌-◌, ◌<◌, ◌≤◌, ◌↔◌, [], cond, Result, Ok, Err, IfOk, IsErrOf, IsOk, refl, sym, subst, arith, nat_lt, nat_le, false≢true, nat_tests, HeapState, allocated_words, fits, last_tick, named, payload_words_at, payload_words_given, want, Name, Refusal, PoolRefusal, TooLong, Full, sure, Bounds, IsPool, TellsBounds, answered_within, or_worn, pool_allocated}
 use Rattle.tlsf_heap.proofs.lemmas.laws.NoFit.{ok_words}
 use Rattle.tlsf_pool.proofs.lemmas.pools.Given.{given_whole}
 use Rattle.tlsf_pool.proofs.lemmas.pools.PoolKept.{fits_pool, four, given_pool, room, whole_words}
-
-pub either : {X : Type 0} (P : X → Type 0) (b : Bool) (x y : X) → (b ≡ true → P x) → (b ≡ false → P y) → P (cond b x y)
-either P true x y f g = f refl
-either P false x y f g = g refl
+use Rattle.tlsf_pool.proofs.lemmas.laws.Refits.{whether}
 
 -- a request that is too long (L), or one too many (F), or has a place (P) is answered by which it is. It takes this many words
 pub record Answers (sli : ℕ) (h : HeapState) (words len : ℕ) (L F P : Type 0) (answer : Result Name PoolRefusal) : Type 0 where
@@ -75,11 +72,11 @@ module _ (sli : ℕ) (h : HeapState) (p : Bounds) (len : ℕ) (is : IsPool sli h
       given_whole s name (pool_allocated sli h p len).heap (four sli h p is) given.lawful given.fixed (whole_words s p.most _ (four sli h p is) (omega (arith, few)) given.words)
 
   pub bounds_tell : Tells (answered_within p len (pool_allocated sli h p len).answer)
-  bounds_tell = either Tells (nat_lt p.longest len) (Err TooLong) (cond (nat_le p.most p.held) (Err Full) (or_worn (pool_allocated sli h p len).answer)) (λ t.
+  bounds_tell = whether Tells (nat_lt p.longest len) (Err TooLong) (cond (nat_le p.most p.held) (Err Full) (or_worn (pool_allocated sli h p len).answer)) (λ t.
       let more : p.longest < len = grind (arith, nat_tests, t) in
       told (Err TooLong) (tells_long sli h s len more (λ b. omega (arith, more, b.0)) (λ b. omega (arith, more, b.0)))) (λ s'.
       let short : len ≤ p.longest = grind (arith, nat_tests, s') in
-      either Tells (nat_le p.most p.held) (Err Full) (or_worn (pool_allocated sli h p len).answer) (λ t.
+      whether Tells (nat_le p.most p.held) (Err Full) (or_worn (pool_allocated sli h p len).answer) (λ t.
       let all : p.most ≤ p.held = grind (arith, nat_tests, t) in
       told (Err Full) (tells_full sli h s len (λ l. omega (arith, short, l)) (short, omega (arith, all, is.few)) (λ b. omega (arith, all, b.1)))) (λ f.
       let few : p.held < p.most = grind (arith, nat_tests, f) in

@@ -1,8 +1,8 @@
 -- How many lengths count for each row of a table. The order of the lengths doesn't matter, so all goes by sums over them.
-use Rattle.tlsf_pool.proofs.Common.{◌≡◌, ℕ, zero, suc, ◌+◌, ◌<◌, ◌≤◌, ◌⊎◌, Bool, true, false, not, cond, List, [], ◌∷◌, length, filter, replicate, get_or, set, nat_le, nat_lt, Option, Some, None, refl, sym, ap, ap₂, ◌∙◌, subst, inl, inr, arith, zero-add, position_or_len, sum, nat_tests, sum_by-cons, cases_lt, lt-ltb, le-ltb, le-leb, lt-leb, AreOfKinds, Kind, held_of, row_of}
+use Rattle.tlsf_pool.proofs.Common.{◌≡◌, ℕ, zero, suc, ◌+◌, ◌<◌, ◌≤◌, Bool, true, false, not, cond, List, [], ◌∷◌, length, filter, replicate, get_or, set, nat_le, nat_lt, Option, Some, None, refl, sym, ap, ap₂, ◌∙◌, subst, inl, inr, arith, zero-add, position_or_len, sum, nat_tests, sum_by-cons, lt-ltb, AreOfKinds, Kind, held_of, row_of}
 use Rattle.tlsf_pool.proofs.lemmas.laws.Held.{one}
 use Rattle.tlsf_pool.proofs.lemmas.laws.Inventories.{sum_of, sum_one}
-use Rattle.tlsf_pool.proofs.lemmas.laws.Tables.{short, long, split}
+use Rattle.tlsf_pool.proofs.lemmas.laws.Tables.{Add, parted, short, long, split}
 
 -- ---- by sums
 
@@ -47,13 +47,6 @@ same_fit (k ∷ kinds) xs ys same fit = (
 abbrev pub place : List Kind → ℕ → ℕ
 place kinds n = position_or_len (λ kind. nat_le n kind.len) kinds
 
-abbrev Add : Bool → ℕ → List ℕ → List ℕ
-Add c n lens = cond c (n ∷ lens) lens
-
--- a length is short or long
-parted : (k n : ℕ) → ((nat_le n k ≡ true) × (nat_lt k n ≡ false)) ⊎ ((nat_le n k ≡ false) × (nat_lt k n ≡ true))
-parted k n = elim (cases_lt k n) [ inl l ↦ inr (lt-leb n k l, lt-ltb k n l) | inr g ↦ inl (le-leb n k g, le-ltb k n g) ]
-
 one_and : (p : ℕ) → 1 + p ≡ suc p
 one_and p = omega arith
 
@@ -61,8 +54,8 @@ module _ (k : Kind) (kinds : List Kind) (n : ℕ) (lens : List ℕ) where
   -- by the tests of the first row
   by_row : (G : Bool → Bool → Type 0) → G true false → G false true → G (nat_le n k.len) (nat_lt k.len n)
   by_row G here later = elim (parted k.len n) [
-    | inl s ↦ subst (λ (c : Bool). G c (nat_lt k.len n)) (sym s.0) (subst (λ (d : Bool). G true d) (sym s.1) here)
-    | inr s ↦ subst (λ (c : Bool). G c (nat_lt k.len n)) (sym s.0) (subst (λ (d : Bool). G false d) (sym s.1) later)
+    | inl s ↦ subst (λ (c : Bool). G c (nat_lt k.len n)) (sym s.1) (subst (λ (d : Bool). G true d) (sym s.2) here)
+    | inr s ↦ subst (λ (c : Bool). G c (nat_lt k.len n)) (sym s.1) (subst (λ (d : Bool). G false d) (sym s.2) later)
   ]
 
 abbrev at_place : Bool → ℕ → ℕ

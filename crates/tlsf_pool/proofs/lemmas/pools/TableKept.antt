@@ -4,7 +4,7 @@ use Rattle.tlsf_heap.specs.InPlace.{payload_of, bytes_at}
 use Rattle.tlsf_heap.proofs.lemmas.calls.Outcomes.{by_test, by_allocated_words, by_written, named_site, gives_words, takes, writes}
 use Rattle.tlsf_pool.proofs.lemmas.laws.FixedCalls.{kept}
 use Rattle.tlsf_pool.proofs.lemmas.laws.FixedSize.{new_fixed}
-use Rattle.tlsf_pool.proofs.lemmas.laws.Loads.{load_given_words, load_taken, load_written}
+use Rattle.tlsf_pool.proofs.lemmas.laws.Loads.{load_given, load_taken, load_written}
 use Rattle.tlsf_pool.proofs.lemmas.pools.RowTotals.{SameTotals, same_fit, same_held, held_none, fit_none, fit_less, held_more, place}
 use Rattle.tlsf_pool.proofs.lemmas.pools.Served.{enough, in_table, lengths_load, longest_used, modest}
 
@@ -13,7 +13,7 @@ use Rattle.tlsf_pool.proofs.lemmas.pools.Served.{enough, in_table, lengths_load,
 pub given_lengths : (sli words : ℕ) (h : HeapState) (n : ℕ) (name : Name) → Ok name ≡ (allocated_words sli h words n).answer
     → SameTotals (lengths_in (allocated_words sli h words n).heap.blocks) (n ∷ lengths_in h.blocks)
 given_lengths sli words h n name = by_allocated_words sli (λ o. Ok name ≡ o.answer → SameTotals (lengths_in o.heap.blocks) (n ∷ lengths_in h.blocks)) h words n (λ why ok. absurd cc)
-    (λ s site fit ok f. sym (lengths_load f (gives_words h words n s).heap.blocks) ∙ (load_given_words sli f h s words n site fit ∙ ap (λ (m : ℕ). f n + m) (lengths_load f h.blocks)))
+    (λ s site fit ok f. sym (lengths_load f (gives_words h words n s).heap.blocks) ∙ (load_given sli f h s words n site fit ∙ ap (λ (m : ℕ). f n + m) (lengths_load f h.blocks)))
 
 pub taken_lengths : (h : HeapState) (name : Name) → Ok tt ≡ (released h name).answer → SameTotals (length (payload_of h name) ∷ lengths_in (released h name).heap.blocks) (lengths_in h.blocks)
 taken_lengths h name =
@@ -68,9 +68,8 @@ module _ (sli : ℕ) (h : HeapState) (t : TableRows) (is : IsTable sli h t) wher
   pub given_table : (n : ℕ) (name : Name) (held : List ℕ) → AreOfKinds t.kinds (n ∷ lengths_in h.blocks) → held ≡ set t.held (place t.kinds n) (get_or t.held (place t.kinds n) 0 + 1)
       → Ok name ≡ (table_allocated sli h t n).answer → IsTable sli (table_allocated sli h t n).heap (record { kinds = t.kinds; held = held; extents = t.extents })
   given_table n name held fit counts answer =
-      let totals = given_lengths sli (fixed_size sli t.kinds) h n name answer in
       let left : List ℕ = lengths_in (table_allocated sli h t n).heap.blocks in
-      let back : SameTotals (n ∷ lengths_in h.blocks) left = λ f. sym (totals f) in
+      let back : SameTotals (n ∷ lengths_in h.blocks) left = λ f. sym ((given_lengths sli (fixed_size sli t.kinds) h n name answer) f) in
       after (Allocate n) held (modest sli h t is n fit) (same_fit t.kinds (n ∷ lengths_in h.blocks) left back fit)
       (counts ∙ (ap (λ (xs : List ℕ). set xs (place t.kinds n) (get_or xs (place t.kinds n) 0 + 1)) is.held ∙ (sym (held_more t.kinds n (lengths_in h.blocks)) ∙ same_held t.kinds (n ∷ lengths_in h.blocks) left back)))
 

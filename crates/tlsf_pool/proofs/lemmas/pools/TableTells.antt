@@ -2,7 +2,8 @@
 use Rattle.tlsf_pool.proofs.Common.{◌≡◌, ℕ, ◌<◌, ◌≤◌, Option, Some, None, Result, Err, refl, subst, arith, nat_lt, slice_index, nat_tests, IsSomeAnd, HeapState, Name, PoolRefusal, TooLong, Full, or_worn, HasPlace, IsFull, IsTable, TableRows, TellsTable, answered_by_table, answered_in, most_at, row_of, table_allocated, fixed_size}
 use Rattle.tlsf_pool.proofs.lemmas.pools.Answering.{of_some, none_some, full_at, given_words, is_planned, planned, room}
 use Rattle.tlsf_pool.proofs.lemmas.pools.Served.{fits_table}
-use Rattle.tlsf_pool.proofs.lemmas.pools.PoolTells.{Answers, either, tells_full, tells_long, tells_served}
+use Rattle.tlsf_pool.proofs.lemmas.pools.PoolTells.{Answers, tells_full, tells_long, tells_served}
+use Rattle.tlsf_pool.proofs.lemmas.laws.Refits.{whether}
 
 module _ (sli : ℕ) (h : HeapState) (t : TableRows) (len : ℕ) (is : IsTable sli h t) where
   abbrev s : ℕ
@@ -37,7 +38,7 @@ module _ (sli : ℕ) (h : HeapState) (t : TableRows) (len : ℕ) (is : IsTable s
 
   by_row : (o : Option ℕ) → row_of t.kinds len ≡ o → Tells (answered_in t (table_allocated sli h t len).answer o)
   by_row None none = told (Err TooLong) (tells_long sli h s len none (none_some IsAt (row_of t.kinds len) none) (none_some IsUnder (row_of t.kinds len) none))
-  by_row (Some row) found = either Tells (nat_lt (slice_index t.held row) (most_at t.kinds row)) (or_worn (table_allocated sli h t len).answer) (Err Full) (λ less.
+  by_row (Some row) found = whether Tells (nat_lt (slice_index t.held row) (most_at t.kinds row)) (or_worn (table_allocated sli h t len).answer) (Err Full) (λ less.
       let few : slice_index t.held row < most_at t.kinds row = grind (arith, nat_tests, less) in
       let has = of_some IsUnder (row_of t.kinds len) row found few in
       told (or_worn (table_allocated sli h t len).answer) (tells_served sli h s len (there row found) (λ b. let same : slice_index t.held row ≡ most_at t.kinds row = of_row IsAt row found b in omega (arith, few, same)) has

@@ -7,6 +7,7 @@ use Rattle.tlsf_pool.proofs.lemmas.pools.Answering.{of_some, some_of}
 use Rattle.tlsf_pool.proofs.lemmas.pools.RowTotals.{held_length, next_row, none, place, row_is, this_row}
 use Rattle.tlsf_pool.proofs.lemmas.pools.Heaps.{is_part, part_has}
 use Rattle.tlsf_pool.proofs.lemmas.sizes.Risings.{shorter_before}
+use Rattle.std.proofs.lemmas.List.{map-set, set-get_or}
 
 -- the rows before the first part, and those before the part after another
 before_none : (parts : List TableState) (row : ℕ) → row ≡ rows_before parts 0 + row
@@ -243,15 +244,14 @@ pub rows_kept : (p : PoolsState) (part : ℕ) (old new : TableState) → part < 
 rows_kept p part old new within is same = rows_set p.parts part new within (same ∙ ap (λ (t : TableState). t.ledger.kinds) (is_part p part old within is))
 
 -- the memory of all heaps and tables stays where that of one does
-memory_set : (parts : List TableState) (i : ℕ) (t : TableState) → i < length parts → memory_of t ≡ memory_of (get_or parts i no_part) → map memory_of (set parts i t) ≡ map memory_of parts
-memory_set [] i t within same = absurd (omega (arith, within))
-memory_set (x ∷ parts) zero t within same = ap (λ (m : Extents × TableExtents). m ∷ map memory_of parts) same
-memory_set (x ∷ parts) (suc i) t within same = ap (λ (ms : List (Extents × TableExtents)). memory_of x ∷ ms) (memory_set parts i t (this_row _ _ within) same)
+memory_set : (parts : List TableState) (i : ℕ) (t : TableState) → memory_of t ≡ memory_of (get_or parts i no_part) → map memory_of (set parts i t) ≡ map memory_of parts
+memory_set parts i t same =
+    map-set memory_of parts i t ∙ ap (set (map memory_of parts) i) same ∙ sym (map-set memory_of parts i (get_or parts i no_part)) ∙ ap (map memory_of) (set-get_or parts i no_part)
 
 pub all_stay : (p : PoolsState) (part : ℕ) (old new : TableState) → part < length p.parts → old ≡ get_or p.parts part old → new.extents ≡ old.extents → new.ledger.extents ≡ old.ledger.extents
     → Stay p (record { id = p.id; parts = set p.parts part new; extent = p.extent })
 all_stay p part old new within is heap table = record {
-  parts = memory_set p.parts part new within (ap₂ (λ (e : Extents) (t : TableExtents). (e, t)) heap table ∙ ap memory_of (is_part p part old within is));
+  parts = memory_set p.parts part new (ap₂ (λ (e : Extents) (t : TableExtents). (e, t)) heap table ∙ ap memory_of (is_part p part old within is));
   extent = refl;
 }
 

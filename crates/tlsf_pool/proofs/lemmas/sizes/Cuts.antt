@@ -1,7 +1,8 @@
 -- The least way of cutting kinds, from its end.
-use Rattle.tlsf_pool.proofs.Common.{◌≡◌, ◌≢◌, ℕ, zero, suc, ◌+◌, ◌-◌, ◌^◌, ◌<◌, ◌≤◌, ◌⊎◌, inl, inr, Bool, true, false, cond, List, [], ◌∷◌, ◌++◌, length, get_or, set, take, drop, Option, Some, None, refl, ap, ap₂, sym, ◌∙◌, subst, arith, add-one, get_or-set_other, get_or-set_same, take-append-drop, length-take, length-drop, length-set, length-append, drop_of_length-le, drop-drop, get_or-drop, take_all, nat_lt, IfSome, IsLevel, most_words, cases_eq, cases_lt, nat_tests, fixed_kinds_words, Kind, cheaper, with_first, AreBest, AreSmall, HasFirst, IsBest, IsBestAmong, cut_by, joined, parts_of, words_together, HasAtMost, HasWords, IsCut, IsLeast, IsLeastAmong, IsNoLater, IsPart, CutAlike, Split}
-use Rattle.tlsf_class.proofs.TwoLevels.{by_level}
+use Rattle.tlsf_pool.proofs.Common.{◌≡◌, ◌≢◌, ℕ, zero, suc, ◌+◌, ◌-◌, ◌^◌, ◌<◌, ◌≤◌, ◌⊎◌, inl, inr, Bool, true, false, cond, List, [], ◌∷◌, ◌++◌, length, get_or, set, take, drop, Option, Some, None, refl, ap, ap₂, sym, ◌∙◌, subst, arith, add-one, get_or-set_other, get_or-set_same, take-append-drop, length-take, length-drop, length-set, length-append, drop_of_length-le, drop-drop, get_or-drop, take_all, nat_lt, IfSome, IsLevel, cases_eq, cases_lt, nat_tests, fixed_kinds_words, Kind, cheaper, with_first, AreBest, AreSmall, HasFirst, IsBest, IsBestAmong, cut_by, joined, parts_of, words_together, HasAtMost, HasWords, IsCut, IsLeast, IsLeastAmong, IsNoLater, IsPart, CutAlike, Split}
+use Rattle.tlsf_class.proofs.TwoLevels.{most_words_any}
 use Rattle.tlsf_pool.specs.sizes.Cheapest.{IsSmall}
+use Rattle.std.proofs.lemmas.List.{drop_at, take_at}
 
 -- ---- a first heap more
 
@@ -17,22 +18,14 @@ cut_first heaps n lens kinds inside =
 
 -- ---- a part and what is behind it
 
-taken : (part rest : List Kind) → take (length part) (part ++ rest) ≡ part
-taken [] rest = refl
-taken (kind ∷ part) rest = ap (λ (kinds : List Kind). kind ∷ kinds) (taken part rest)
-
-dropped : (part rest : List Kind) → drop (length part) (part ++ rest) ≡ rest
-dropped [] rest = refl
-dropped (kind ∷ part) rest = dropped part rest
-
 record Begins (n : ℕ) (kinds part rest : List Kind) : Type 0 where
   first : part ≡ take n kinds
   behind : rest ≡ drop n kinds
 
 begins : (n : ℕ) (kinds part rest : List Kind) → part ++ rest ≡ kinds → length part ≡ n → Begins n kinds part rest
 begins n kinds part rest joins long = record {
-  first = sym (ap₂ (λ (k : ℕ) (xs : List Kind). take k xs) (sym long) (sym joins) ∙ taken part rest);
-  behind = sym (ap₂ (λ (k : ℕ) (xs : List Kind). drop k xs) (sym long) (sym joins) ∙ dropped part rest);
+  first = sym (ap₂ (λ (k : ℕ) (xs : List Kind). take k xs) (sym long) (sym joins) ∙ take_at part rest (length part) refl);
+  behind = sym (ap₂ (λ (k : ℕ) (xs : List Kind). drop k xs) (sym long) (sym joins) ∙ drop_at part rest (length part) refl);
 }
 
 -- the first heap has just this many kinds
@@ -59,8 +52,7 @@ module _ (sli heaps n : ℕ) (kinds : List Kind) (some : 0 < n) (within : n ≤ 
   least_with words rest is best [] cut just = absurd just
   least_with words rest is best (part ∷ parts) cut just =
       let begin = begins n kinds part (joined parts) cut.0 just.0 in
-      let first = ap (fixed_kinds_words sli) begin.first in
-      omega (arith, is, first, best.least parts (begin.behind, cut.1.1) just.1)
+      omega (arith, is, ap (fixed_kinds_words sli) begin.first, best.least parts (begin.behind, cut.1.1) just.1)
 
   first_with : (words : ℕ) (rest : Split) → words ≡ fixed_kinds_words sli (take n kinds) → IsLeastAmong sli (HasAtMost heaps) (drop n kinds) rest
       → (parts : List (List Kind)) → IsCut sli kinds parts → HasJust heaps n parts → words_together sli parts ≡ words + rest.words → IsNoLater (take n kinds ∷ parts_of rest (drop n kinds)) parts
@@ -91,11 +83,8 @@ pub are_words : (sli : ℕ) (part : List Kind) (words : Option ℕ) → IfSome w
 are_words sli part None some none = record { some = λ n is. absurd cc; none = none }
 are_words sli part (Some words) some none = record { some = λ n is. let same : words ≡ n = cc in subst (λ (k : ℕ). HasWords sli part × (k ≡ fixed_kinds_words sli part)) same some; none = λ is. absurd cc }
 
-pub most_words_most : (sli : ℕ) → IsLevel sli → most_words sli ≤ 2 ^ 24
-most_words_most = by_level (λ sli. most_words sli ≤ 2 ^ 24) (omega arith) (omega arith)
-
 pub words_most : (sli : ℕ) → IsLevel sli → (part : List Kind) (words : Option ℕ) → AreWordsOf sli part words → (n : ℕ) → words ≡ Some n → n ≤ 2 ^ 24
-words_most sli level part words are n is = let has = are.some n is in omega (arith, has.0.1, has.1, most_words_most sli level)
+words_most sli level part words are n is = let has = are.some n is in omega (arith, has.0.1, has.1, most_words_any sli)
 
 -- ---- the cheaper of two
 
@@ -302,14 +291,15 @@ same_cut (part ∷ parts) (other ∷ others) joins upto from = elim upto [
     | inl more ↦ absurd (omega (arith, more, as_long.0))
     | inr back ↦
         let begin = begins (length other) (other ++ joined others) part (joined parts) joins as_long.0 in
-        ap₂ (λ (p : List Kind) (ps : List (List Kind)). p ∷ ps) (begin.first ∙ taken other (joined others))
-        (same_cut parts others (begin.behind ∙ dropped other (joined others)) as_long.1 back.1)
+        ap₂ (λ (p : List Kind) (ps : List (List Kind)). p ∷ ps) (begin.first ∙ take_at other (joined others) (length other) refl)
+        (same_cut parts others (begin.behind ∙ drop_at other (joined others) (length other) refl) as_long.1 back.1)
   ]
 ]
 
-cut_count : (heaps : ℕ) (lens : List ℕ) (kinds : List Kind) → length (cut_by heaps lens kinds) ≡ heaps
-cut_count zero lens kinds = refl
-cut_count (suc heaps) lens kinds = omega (arith, cut_count heaps lens (drop (get_or lens heaps 0) kinds))
+-- there are as many parts as heaps
+pub many_parts : (heaps : ℕ) (lens : List ℕ) (kinds : List Kind) → length (cut_by heaps lens kinds) ≡ heaps
+many_parts zero lens kinds = refl
+many_parts (suc heaps) lens kinds = omega (arith, many_parts heaps lens (drop (get_or lens heaps 0) kinds))
 
 pub one_way : (sli heaps : ℕ) (kinds : List Kind) (split other : Split) → IsLeast sli heaps kinds split → IsLeast sli heaps kinds other → CutAlike kinds split other
 one_way sli heaps kinds split other is least =
@@ -320,6 +310,6 @@ one_way sli heaps kinds split other is least =
     (least.first (parts_of split kinds) is.cut is.sought (omega (arith, upto, from, is.words))) in
     record {
       parts = parts;
-      heaps = omega (arith, ap (λ (ps : List (List Kind)). length ps) parts, cut_count split.heaps split.lens kinds, cut_count other.heaps other.lens kinds);
+      heaps = omega (arith, ap (λ (ps : List (List Kind)). length ps) parts, many_parts split.heaps split.lens kinds, many_parts other.heaps other.lens kinds);
       words = omega (arith, upto, from);
     }

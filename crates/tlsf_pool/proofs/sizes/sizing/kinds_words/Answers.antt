@@ -15,9 +15,8 @@ returns-then-are_fours g c =
 
 pub returns : goal.returns
 returns g c =
-    let words = kinds_of_more g.row.SLI c.args.kinds.now (sym c.are_fours.ensures ∙ c.if-are_fours.false) in
     let end = at_drop_all (λ ks. fold max c.loop-kind.words (map (words_with g.row.SLI c.args.kinds.now) (used ks))) c.args.kinds.now c.loop-kind.kind-index (omega (arith, c.loop-kind-test.false)) in
-    omega (arith, words, c.loop-kind.invariant, end)
+    omega (arith, kinds_of_more g.row.SLI c.args.kinds.now (sym c.are_fours.ensures ∙ c.if-are_fours.false), c.loop-kind.invariant, end)
 
 pub words_beside-requires : goal.words_beside-requires
 words_beside-requires g c = record {

@@ -1,7 +1,8 @@
 use Rattle.tlsf_pool.proofs.Common.{◌≡◌, ◌≤◌, List, sym, ◌∙◌, subst, arith, rules, last_tick, Kind, AreAllReached, parts_of}
-use Rattle.tlsf_pool.proofs.lemmas.pools.Opened.{cut_rises, many_parts, new_pools}
+use Rattle.tlsf_pool.proofs.lemmas.pools.Opened.{cut_rises, new_pools}
 use Rattle.tlsf_pool.proofs.lemmas.pools.WholeTable.{all_reached, new_rows}
 use Rattle.tlsf_pool.proofs.pools.pools.Pools.open.Goals as goal
+use Rattle.tlsf_pool.proofs.lemmas.sizes.Cuts.{many_parts}
 
 pub open_parts-requires : goal.open_parts-requires
 open_parts-requires g c =

@@ -1,4 +1,4 @@
-use Rattle.tlsf_pool.proofs.Common.{◌≡◌, ◌<◌, ◌∙◌, ℕ, List, length, slice_index, sym, ap, subst, IsSomeAnd, with_items_is, Kind, HoldsOneMore, IsTable, row_of}
+use Rattle.tlsf_pool.proofs.Common.{◌<◌, ◌∙◌, ℕ, List, length, slice_index, sym, ap, subst, IsSomeAnd, with_items_is, Kind, HoldsOneMore, IsTable, row_of}
 use Rattle.tlsf_pool.proofs.lemmas.pools.Answering.{take_one, taken_at}
 use Rattle.tlsf_pool.proofs.pools.table.TableLedger.take_back.Goals as goal
 
@@ -12,8 +12,7 @@ count_down-requires g c =
 pub returns-clause-holds : goal.returns-clause-holds
 returns-clause-holds g c = λ sli h name is seen answer.
     let old = c.self.inside.held in
-    let long : length c.count_down.new.held ≡ old.len = c.count_down.auto.held ∙ (ap length c.deref_mut.ensures.value ∙ sym old.ok.0) in
     let holds = subst (λ (ks : List Kind). HoldsOneMore ks c.args.len c.count_down.new.held c.deref_mut.result.now) c.deref.ensures.value c.count_down.ensures in
     let own = subst (λ (xs : List ℕ). HoldsOneMore c.self.inside.kinds.items c.args.len c.count_down.new.held xs) c.deref_mut.ensures.value holds in
-    let items = with_items_is old c.count_down.new.held long in
+    let items = with_items_is old c.count_down.new.held (c.count_down.auto.held ∙ (ap length c.deref_mut.ensures.value ∙ sym old.ok.0)) in
     taken_at sli h _ (subst (IsTable sli h) (sym c.self.view_is) is) name c.args.len _ seen (subst (λ (xs : List ℕ). HoldsOneMore c.self.inside.kinds.items c.args.len xs old.items) (sym items) own) answer

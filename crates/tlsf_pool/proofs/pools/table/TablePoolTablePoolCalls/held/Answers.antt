@@ -5,5 +5,4 @@ use Rattle.tlsf_pool.proofs.pools.table.TablePoolTablePoolCalls.held.Goals as go
 pub returns-clause-few : goal.returns-clause-few
 returns-clause-few g c =
     let is : IsTabled g.row.SLI c.args.self.now = search rules in
-    let few = few_held g.row.SLI c.args.self.now.heap c.args.self.now.ledger is.holds c.args.row in
-    search (rules, few)
+    search (rules, few_held g.row.SLI c.args.self.now.heap c.args.self.now.ledger is.holds c.args.row)
