@@ -19,7 +19,7 @@ use Rattle.tlsf_heap.specs.declared.refusal.Refusal.{Refusal}
 use Rattle.tlsf_heap.specs.declared.refusal.Refusal.TheVariants.{NoFit, NoRoom, Worn, Foreign}
 use Rattle.tlsf_heap.proofs.lemmas.calls.Allocate.{fits_size}
 use Rattle.tlsf_heap.proofs.lemmas.lists.Chosen.{none_above}
-use Rattle.tlsf_heap.proofs.lemmas.blocks.Replace.{carved_small, carved_large}
+use Rattle.tlsf_heap.proofs.lemmas.blocks.Replace.{carved_small, carved_large, first_free-words}
 use Rattle.tlsf_heap.proofs.lemmas.blocks.Find.{and_left, and_right}
 use Rattle.tlsf_heap.proofs.lemmas.laws.Gone.{gone_dead, gone_taken}
 use Rattle.tlsf_heap.proofs.lemmas.laws.Lasting.{HasFrom, in_left, in_right, of_index, to_index}
@@ -73,9 +73,8 @@ ends o span h =
 
 before : (o : Offsets) (a b : Span) (x : IsHeld o a) (y : IsHeld o b) → x.index < y.index → a.offset + a.size ≤ b.offset
 before o a b x y l =
-    let far = mul-le-mul_left o.unit (ends_before o.heap.blocks x.index y.index l y.stands.within) in
     let place : o.unit * b.name.at ≡ o.unit * words_in (take y.index o.heap.blocks) = ap (λ (a : ℕ). o.unit * a) (sym y.stands.place) in
-    omega (arith, ends o a x, far, place, y.offset)
+    omega (arith, ends o a x, mul-le-mul_left o.unit (ends_before o.heap.blocks x.index y.index l y.stands.within), place, y.offset)
 
 -- two spans of one block have one name
 names : (o : Offsets) (a b : Span) (x : IsHeld o a) (y : IsHeld o b) → x.index ≡ y.index → a.name ≡ b.name
@@ -96,8 +95,7 @@ apart sli o a b is x y other =
 
 pub within : (sli : ℕ) (o : Offsets) (a : Span) → IsOffsets sli o → IsHeld o a → a.offset + a.size ≤ o.unit * o.heap.words
 within sli o a is x =
-    let far = mul-le-mul_left o.unit (inside o.heap is.lawful x.index x.stands.within) in
-    omega (arith, ends o a x, far)
+    omega (arith, ends o a x, mul-le-mul_left o.unit (inside o.heap is.lawful x.index x.stands.within))
 
 -- ---- one span a name
 
@@ -220,11 +218,6 @@ module _ (sli : ℕ) (level : IsLevel sli) where
         | inr near ↦ ap (λ (k : ℕ). resized_words h name k 0) (omega (arith, near))
       ]
     where
-      first_within : (bs : List Block) → first_free bs ≤ words_in bs
-      first_within [] = omega arith
-      first_within (Live m s xs ∷ bs) = omega arith
-      first_within (Free m s ∷ bs) = omega arith
-
       too_long : (h : HeapState) (s : Site) (k : ℕ) → room_of s.block s.after < k → resized_at h k 0 (Some s) ≡ refused h NoRoom
       too_long h s k far =
           let less : nat_lt (room_of s.block s.after) k ≡ true = grind (arith, nat_tests) in
@@ -238,7 +231,7 @@ module _ (sli : ℕ) (level : IsLevel sli) where
           at (Some s) e =
               let site = (named_site name h.blocks s e).0 in
               let all : words_in (s.before ++ s.block ∷ s.after) ≡ h.words = ap words_in site ∙ lawful.whole in
-              let room : room_of s.block s.after ≤ h.words = omega (arith, all, words_in-append s.before (s.block ∷ s.after), first_within s.after) in
+              let room : room_of s.block s.after ≤ h.words = omega (arith, all, words_in-append s.before (s.block ∷ s.after), first_free-words s.after) in
               too_long h s n (omega (arith, room, far)) ∙ sym (too_long h s m (omega (arith, room, farther)))
 
 -- ---- what a call makes
@@ -249,6 +242,10 @@ pub record Made (name : Name) (n : ℕ) (k : HeapState) : Type 0 where
   pub size : ℕ
   pub least : n ≤ size
   pub there : HasFrom (IsBlock name.serial size) name.at 0 k.blocks
+
+-- a live block of that name, of n words or more and fewer than four more
+abbrev pub MadeClose : Name → ℕ → HeapState → Type 0
+MadeClose name n k = (made : Made name n k) × (made.size < n + 4)
 
 pub made_live : (name : Name) (n : ℕ) (k : HeapState) → Made name n k → IsLive k name
 made_live name n k made =
@@ -274,11 +271,10 @@ made_size sli p span n made is h =
 units_hold : (unit len : ℕ) → 0 < unit → len ≤ unit * (len / unit + min 1 (len % unit))
 units_hold unit len some =
     let parts = div-add-mod' len unit in
-    let rest = mod-lt len some in
     elim (cases_lt 0 (len % unit)) [
       | inl more ↦
           let up : len / unit + min 1 (len % unit) ≡ len / unit + 1 = omega (arith, more) in
-          omega (arith, parts, rest, ap (λ (k : ℕ). unit * k) up, mul-add unit (len / unit) 1, mul_comm unit (len / unit))
+          omega (arith, parts, mod-lt len some, ap (λ (k : ℕ). unit * k) up, mul-add unit (len / unit) 1, mul_comm unit (len / unit))
       | inr none ↦
           let up : len / unit + min 1 (len % unit) ≡ len / unit = omega (arith, none) in
           omega (arith, parts, none, ap (λ (k : ℕ). unit * k) up, mul_comm unit (len / unit))
@@ -286,10 +282,9 @@ units_hold unit len some =
 
 pub enough : (sli : ℕ) (p : Offsets) (span : Span) (len : ℕ) → IsOffsets sli p → IsHeld p span → Made span.name (span_units p.unit len) p.heap → len ≤ span.size
 enough sli p span len is h made =
-    let hold = units_hold p.unit len is.some in
     let four = mul-le-mul_left p.unit (max_right 4 (len / p.unit + min 1 (len % p.unit))) in
     let least = mul-le-mul_left p.unit made.least in
-    omega (arith, hold, four, least, made_size sli p span (span_units p.unit len) made is h)
+    omega (arith, units_hold p.unit len is.some, four, least, made_size sli p span (span_units p.unit len) made is h)
   where
     max_right : (a b : ℕ) → b ≤ max a b
     max_right a b = omega arith
@@ -297,7 +292,7 @@ enough sli p span len is h made =
 -- ---- by an allocate
 
 abbrev Given : ℕ → HeapState → ℕ → Outcome Name → Type 0
-Given sli h n o = (name : Name) → o.answer ≡ Ok name → (made : Made name n o.heap) × (made.size < n + 4)
+Given sli h n o = (name : Name) → o.answer ≡ Ok name → MadeClose name n o.heap
 
 pub given_made : (sli n : ℕ) (h : HeapState) → IsLevel sli → Given sli h n (allocated_words sli h n 0)
 given_made sli n h level = by_allocated_words sli (Given sli h n) h n 0 (λ why name e. absurd cc) (λ s site fit name e.
@@ -325,8 +320,7 @@ given_made sli n h level = by_allocated_words sli (Given sli h n) h n 0 (λ why 
 -- a span of fewer than four units more than n
 pub close : (sli : ℕ) (p : Offsets) (span : Span) (n : ℕ) → IsOffsets sli p → IsHeld p span → (made : Made span.name n p.heap) → made.size < n + 4 → span.size < p.unit * (n + 4)
 close sli p span n is h made few =
-    let less = mul-le-mul_left p.unit few in
-    omega (arith, made_size sli p span n made is h, less, is.some, mul-add p.unit made.size 1)
+    omega (arith, made_size sli p span n made is h, mul-le-mul_left p.unit few, is.some, mul-add p.unit made.size 1)
 
 -- ---- by a resize
 
@@ -349,10 +343,6 @@ by_sized P tick n m s xs back room kept wide cuts = elim (cases_lt m n) [
       | inl small ↦ subst (λ (l : List Block). P (l ++ past_free back)) (sym (cut_small (m + first_free back) n tick s (fitted xs 0) small)) (wide small)
       | inr large ↦ subst (λ (l : List Block). P (l ++ past_free back)) (sym (cut_large (m + first_free back) n tick s (fitted xs 0) large)) cuts
     ]
-
--- a live block of that name, of n words or more and fewer than four more
-abbrev pub MadeClose : Name → ℕ → HeapState → Type 0
-MadeClose name n k = (made : Made name n k) × (made.size < n + 4)
 
 abbrev Left : HeapState → Name → ℕ → Outcome (Unit {0}) → Type 0
 Left h name n o = o.answer ≡ Ok tt → MadeClose name n o.heap
@@ -391,8 +381,8 @@ abbrev pub with_heap : ℕ → Shown → Offsets
 with_heap unit h = record { heap = h.heap; unit = unit; extents = h.extents; touches = h.touches; touched = h.touched }
 
 -- the span of the block that was made, also after a look
-served : (sli : ℕ) (o p left : Offsets) (len : ℕ) (span : Span) → IsOffsets sli p → p.unit ≡ o.unit → IsHeld p span → MadeClose span.name (span_units o.unit len) p.heap → Looks 1 p left → IsServed o left len span
-served sli o p left len span after unit h made looks = record {
+served : (sli : ℕ) (o p left : Offsets) (len : ℕ) (span : Span) (name : Name) → IsOffsets sli p → p.unit ≡ o.unit → IsHeld p span → span.name ≡ name → MadeClose name (span_units o.unit len) p.heap → Looks 1 p left → IsServed o left len span
+served sli o p left len span name after unit h named close_to looks = let made = subst (λ (m : Name). MadeClose m (span_units o.unit len) p.heap) (sym named) close_to in record {
   held = subst (λ (x : HeapState × ℕ). IsHeld (record left { heap = x.0; unit = x.1 }) span) (λ i. (sym looks.heap i, sym looks.unit i)) (held_in left h);
   enough = enough sli p span len after h (subst (λ (u : ℕ). Made span.name (span_units u len) p.heap) (sym unit) made.0);
   close = subst (λ (u : ℕ). span.size < u * (span_units o.unit len + 4)) unit (close sli p span (span_units o.unit len) after h made.0 made.1);
@@ -419,15 +409,11 @@ asks sli i o p len m answer is same units r g lawful =
     record { allocates = asked; unit_is = unit; before = is; after = stays sli o p is unit (ap (λ (h : HeapState). h.words) asked.heap ∙ words_allocated sli o.heap n) lawful }
 
 module _ (sli : ℕ) (o p : Offsets) (len : ℕ) (name : Name) (a : Asks sli o p len (Ok name)) where
-  pub asks_made : (made : Made name (span_units o.unit len) p.heap) × (made.size < span_units o.unit len + 4)
-  asks_made = subst (λ (h : HeapState). (made : Made name (span_units o.unit len) h) × (made.size < span_units o.unit len + 4)) (sym a.allocates.heap) (given_made sli (span_units o.unit len) o.heap a.before.level name (sym a.allocates.answer_is))
+  pub asks_made : MadeClose name (span_units o.unit len) p.heap
+  asks_made = subst (MadeClose name (span_units o.unit len)) (sym a.allocates.heap) (given_made sli (span_units o.unit len) o.heap a.before.level name (sym a.allocates.answer_is))
 
-  module _ (span : Span) (named : span.name ≡ name) (h : IsHeld p span) where
-    spanned : (made : Made span.name (span_units o.unit len) p.heap) × (made.size < span_units o.unit len + 4)
-    spanned = subst (λ (m : Name). (made : Made m (span_units o.unit len) p.heap) × (made.size < span_units o.unit len + 4)) (sym named) asks_made
-
-    pub asks_served : (left : Offsets) → Looks 1 p left → IsServed o left len span
-    asks_served left looks = served sli o p left len span a.after a.unit_is h spanned looks
+  pub asks_served : (span : Span) → span.name ≡ name → IsHeld p span → (left : Offsets) → Looks 1 p left → IsServed o left len span
+  asks_served span named h left looks = served sli o p left len span name a.after a.unit_is h named asks_made looks
 
   pub asks_new : (other : Span) → IsHeld o other → other.name ≢ name
   asks_new other h same = new_words sli o.heap (span_units o.unit len) 0 name a.before.lawful (sym a.allocates.answer_is) (subst (IsLive o.heap) same (live o other h))
@@ -452,12 +438,8 @@ module _ (sli : ℕ) (o p : Offsets) (name : Name) (len : ℕ) (a : Alters sli o
   pub alters_made : MadeClose name (span_units o.unit len) p.heap
   alters_made = subst (MadeClose name (span_units o.unit len)) (sym a.resizes.heap) (left_made o.heap name (span_units o.unit len) (sym a.resizes.answer_is))
 
-  module _ (span : Span) (named : span.name ≡ name) (h : IsHeld p span) where
-    respanned : MadeClose span.name (span_units o.unit len) p.heap
-    respanned = subst (λ (m : Name). MadeClose m (span_units o.unit len) p.heap) (sym named) alters_made
-
-    pub alters_served : (left : Offsets) → Looks 1 p left → IsServed o left len span
-    alters_served left looks = served sli o p left len span a.after a.unit_is h respanned looks
+  pub alters_served : (span : Span) → span.name ≡ name → IsHeld p span → (left : Offsets) → Looks 1 p left → IsServed o left len span
+  alters_served span named h left looks = served sli o p left len span name a.after a.unit_is h named alters_made looks
 
 -- the name of a resize that was done names a block
 pub resized_named : (h : HeapState) (name : Name) (n : ℕ) → (resized_words h name n 0).answer ≡ Ok tt → IsNamed h name
