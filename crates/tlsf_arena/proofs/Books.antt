@@ -1,18 +1,17 @@
 -- The book of an arena, under the calls of its heap.
-use Rattle.tlsf_arena.proofs.Common.{◌≡◌, ◌≢◌, ℕ, ◌+◌, ◌<◌, ◌≤◌, Bool, true, false, cond, eqb, nat_le, nat_lt, ◌||◌, List, [], ◌∷◌, ◌++◌, length, Option, Some, Ok, refl, sym, ap, subst, ◌∙◌, arith, inl, inr, IsSome, eq-eqb, eqb-true, false≢true, cases_lt, nat_tests, Block, Live, Free, HeapState, size_of, bytes_of, words_in, Site, place_of, IsLawful, IsLive, allocated_words, fitted, first_free, has_serial, is_sized, past_free, recut, refitted, released, resized_words, room_of, Name, Holds, Loan, loan_of, name_of, units_of, is_out, same_loan, without, IsBook, held_units, lacking, IsLevel}
+use Rattle.tlsf_arena.proofs.Common.{◌≡◌, ◌≢◌, ℕ, ◌+◌, ◌≤◌, Bool, true, false, eqb, ◌||◌, List, [], ◌∷◌, length, Option, Some, Ok, refl, sym, ap, subst, ◌∙◌, arith, inl, IsSome, eq-eqb, eqb-true, false≢true, Block, Live, Free, HeapState, size_of, bytes_of, words_in, Site, place_of, IsLawful, IsLive, allocated_words, fitted, first_free, has_serial, refitted, released, resized_words, room_of, Name, Holds, Loan, loan_of, name_of, units_of, is_out, same_loan, without, IsBook, held_units, lacking, IsLevel}
 use Rattle.tlsf_heap.specs.Steps.{Fit, Give}
 use Rattle.tlsf_heap.proofs.lemmas.blocks.Find.{and_left, and_right}
-use Rattle.tlsf_heap.proofs.lemmas.words.NewBytes.{length-fitted}
 use Rattle.tlsf_heap.proofs.lemmas.laws.Lasting.{HasFrom, in_right}
 use Rattle.tlsf_heap.proofs.lemmas.laws.Live.{new_words}
 use Rattle.tlsf_heap.proofs.lemmas.calls.Outcomes.{by_resized_words, ids_step, resizes}
 use Rattle.tlsf_arena.specs.declared.book.Book.{Book}
 use Rattle.tlsf_arena.specs.declared.right.Right.{Right}
-use Rattle.tlsf_heap.proofs.lemmas.words.Recut.{cut_small, cut_large}
 use Rattle.tlsf_arena.proofs.Holding.{IsBlockOf, by_place, kept, stays_released, stays_resized}
 use Rattle.tlsf_arena.proofs.Mapped.{lacks}
 use Rattle.tlsf_arena.proofs.Maps.{Tells, holds_given}
 use Rattle.tlsf_arena.proofs.Rights.{is_same, was_out, out_no_more}
+use Rattle.tlsf_arena.proofs.Resizes.{by_refit, told}
 
 -- ---- a block that is held
 
@@ -28,29 +27,11 @@ alive h name k holds = (holds.1, subst (λ (o : Option Site). IsSome o) (sym hol
 
 -- what is refitted begins with the block, for which n units were wanted
 refitted_holds : (tick n len m serial : ℕ) (bytes : List ℕ) (after : List Block) (at : ℕ) → Tells n len → n ≤ m + first_free after → HasFrom (IsBlockOf serial n) at at (refitted tick n len (Live m serial bytes) after)
-refitted_holds tick n len m serial bytes after at tells fits = by_bool (is_sized n (Live m serial bytes)) refl
-  where
-    new : List ℕ
-    new = fitted bytes len
-
-    told : Tells n (length new)
-    told size least most = ap (held_units size) (length-fitted bytes len) ∙ tells size least most
-
-    own : eqb serial serial ≡ true
-    own = eq-eqb serial serial refl
-
-    by_bool : (b : Bool) → is_sized n (Live m serial bytes) ≡ b → HasFrom (IsBlockOf serial n) at at (cond b (Live m serial new ∷ after) (recut tick n (Live m serial new) after))
-    by_bool true e =
-        let least : n ≤ m = grind (arith, nat_tests, and_left (nat_le n m) (nat_lt m (n + 4)) e) in
-        let most : m < n + 4 = grind (arith, nat_tests, and_right (nat_le n m) (nat_lt m (n + 4)) e) in
-        inl ((own, told m least most), refl)
-    by_bool false e =
-        let room = m + first_free after in
-        let There : List Block → Type 0 = HasFrom (IsBlockOf serial n) at at in
-        elim (cases_lt room (n + 4)) [
-          | inl small ↦ subst (λ (l : List Block). There (l ++ past_free after)) (sym (cut_small room n tick serial new small)) (inl ((own, told room fits small), refl))
-          | inr large ↦ subst (λ (l : List Block). There (l ++ past_free after)) (sym (cut_large room n tick serial new large)) (inl ((own, told n (omega arith) (omega arith)), refl))
-        ]
+refitted_holds tick n len m serial bytes after at tells fits =
+    let own : eqb serial serial ≡ true = eq-eqb serial serial refl in
+    let units : Tells n (length (fitted bytes len)) = told n len bytes tells in
+    by_refit (HasFrom (IsBlockOf serial n) at at) tick n len m serial bytes after (λ least most. inl ((own, units m least most), refl))
+    (λ large. inl ((own, units n (omega arith) (omega arith)), refl)) (λ small. inl ((own, units (m + first_free after) fits small), refl))
 
 -- a block that was resized is held with as many units as were wanted
 pub holds_resized : (h : HeapState) (name : Name) (n len : ℕ) → Tells n len → (resized_words h name n len).answer ≡ Ok tt → IsLawful (resized_words h name n len).heap → Holds (resized_words h name n len).heap name n

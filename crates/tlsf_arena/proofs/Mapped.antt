@@ -1,14 +1,12 @@
 -- An arena's map of free grains under the calls of its heap.
-use Rattle.tlsf_arena.proofs.Common.{cases_lt, cases_cond, most_words, IsRegion, Holds, Loan, IsBook, is_out, name_of, units_of, ◌≡◌, ℕ, ◌+◌, ◌-◌, ◌*◌, ◌/◌, ◌%◌, ◌^◌, ◌<◌, ◌≤◌, Bool, true, false, eqb, List, length, replicate, Some, Ok, inl, inr, refl, sym, ap, subst, ◌∙◌, arith, length-replicate, append-nil, IsLevel, HeapState, allocated_words, opened, released, resized_words, IsLawful, placed_at, Name, IsMapped, IsUnit, IsRun, lacking, marked, spread, free_map, held_at, free_units_in}
-use Rattle.tlsf_arena.proofs.Maps.{Tells, arena_carves, arena_frees, held_of, whole_map}
+use Rattle.tlsf_arena.proofs.Common.{cases_lt, IsRegion, Holds, Loan, IsBook, is_out, name_of, units_of, ◌≡◌, ℕ, ◌+◌, ◌-◌, ◌*◌, ◌/◌, ◌%◌, ◌^◌, ◌<◌, ◌≤◌, Bool, true, false, List, length, replicate, Some, Ok, inl, inr, sym, ap, subst, ◌∙◌, arith, length-replicate, append-nil, IsLevel, HeapState, allocated_words, opened, released, resized_words, IsLawful, placed_at, Name, IsMapped, IsUnit, IsRun, lacking, marked, spread, free_map, held_at, free_units_in}
+use Rattle.tlsf_arena.proofs.Maps.{Bits, Tells, arena_carves, arena_frees, held_of, whole_map}
 use Rattle.tlsf_arena.proofs.Resizes.{arena_refits}
 use Rattle.tlsf_arena.proofs.Rooms.{marked_length}
 use Rattle.tlsf_arena.proofs.Spread.{spread-replicate, length-spread}
 use Rattle.tlsf_arena.proofs.Stretches.{grown, shrunk}
 use Rattle.tlsf_arena.proofs.UnitCases.{first_grain, grains_of, units_apart}
-
-abbrev Bits : Type 0
-Bits = List Bool
+use Rattle.tlsf_class.proofs.TwoLevels.{most_words_any}
 
 pub lacks : (k : ℕ) → Tells k (lacking k)
 lacks k size least most = omega (arith, least, most)
@@ -115,13 +113,9 @@ module _ {sli u units : ℕ} {was old : HeapState} {free : Bits} (out : List Loa
               ),
         )
 
--- the most words of a level
-few_words : (sli : ℕ) → most_words sli ≤ 2 ^ 24
-few_words sli = elim (cases_cond (eqb sli 4) (2 ^ 20) (2 ^ 24) (most_words sli) refl) [ inl e ↦ omega (arith, e) | inr e ↦ omega (arith, e) ]
-
 -- a region that isn't refused is no larger than the greatest
 pub few_units : (sli units : ℕ) → ¬ (¬ (IsRegion sli units)) → units ≤ 2 ^ 24
-few_units sli units h = elim (cases_lt (2 ^ 24) units) [ inl over ↦ absurd (h (λ r. omega (arith, over, r.1, few_words sli))) | inr within ↦ within ]
+few_units sli units h = elim (cases_lt (2 ^ 24) units) [ inl over ↦ absurd (h (λ r. omega (arith, over, r.1, most_words_any sli))) | inr within ↦ within ]
 
 -- a new arena
 pub opens : (sli u units id size : ℕ) (heap : HeapState) (free : Bits) → IsLevel sli → IsUnit u → 4 ≤ units → units ≤ 2 ^ 24 → heap ≡ opened id units 0 → size / 16 ≡ u / 16 * units → free ≡ replicate (size / 16) true → IsMapped sli u units heap free

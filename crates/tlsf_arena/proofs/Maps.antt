@@ -1,5 +1,5 @@
 -- The map of free units under the calls of the heap.
-use Rattle.tlsf_arena.proofs.Common.{◌≡◌, ℕ, ◌+◌, ◌-◌, ◌*◌, ◌<◌, ◌≤◌, Bool, true, false, eqb, ◌&&◌, List, [], ◌∷◌, ◌++◌, length, take, replicate, Some, None, Option, Ok, refl, sym, ap, subst, ◌∙◌, arith, append_assoc, inl, inr, length-append, IsSome, AllByRecursion, eqb-true, false≢true, cases_lt, length-replicate, append-nil, replicate-append-replicate, IsLevel, Block, Live, Free, HeapState, size_of, bytes_of, words_in, StandsAt, Site, place_of, is_fit, block_at, IsLawful, HasRoom, IsLive, Holds, placed_at, placed, Outcome, carved, allocated_words, released, coalesced, named, first_free, past_free, last_free, before_free, has_serial, Name, IsRun, marked, spread, free_map, held_units, held_at, held_in, free_units_in}
+use Rattle.tlsf_arena.proofs.Common.{◌≡◌, ℕ, ◌+◌, ◌-◌, ◌*◌, ◌<◌, ◌≤◌, Bool, true, false, eqb, ◌&&◌, List, [], ◌∷◌, ◌++◌, length, replicate, Some, None, Option, Ok, refl, sym, ap, subst, ◌∙◌, arith, append_assoc, inl, inr, length-append, IsSome, AllByRecursion, eqb-true, false≢true, cases_lt, length-replicate, append-nil, replicate-append-replicate, IsLevel, Block, Live, Free, HeapState, size_of, bytes_of, words_in, StandsAt, Site, place_of, is_fit, block_at, IsLawful, HasRoom, IsLive, Holds, placed_at, placed, Outcome, carved, allocated_words, released, coalesced, named, first_free, past_free, last_free, before_free, has_serial, Name, IsRun, marked, spread, free_map, held_units, held_at, held_in, free_units_in}
 use Rattle.tlsf_heap.proofs.lemmas.blocks.Find.{and_left, and_right}
 use Rattle.tlsf_heap.proofs.lemmas.blocks.Replace.{carved_small, carved_large}
 use Rattle.tlsf_heap.proofs.lemmas.calls.Allocate.{fits_size}
@@ -10,8 +10,9 @@ use Rattle.tlsf_heap.proofs.lemmas.laws.Live.{given_words}
 use Rattle.tlsf_heap.proofs.lemmas.calls.Outcomes.{IsSiteOf, gives_words, takes, named_site, by_allocated_words, by_released}
 use Rattle.tlsf_arena.proofs.Rooms.{marked_run}
 use Rattle.tlsf_arena.proofs.Spread.{spread_run, spread_marked}
+use Rattle.std.proofs.lemmas.List.{get_or_at, take_at}
 
-abbrev Bits : Type 0
+abbrev pub Bits : Type 0
 Bits = List Bool
 
 -- ---- the map of a list of blocks
@@ -104,16 +105,8 @@ Frees h name k o = o.answer ≡ Ok tt → IsRun (free_map h.blocks) name.at k fa
 pub stands : (bs : List Block) (s : Site) → IsSiteOf bs s → StandsAt bs (place_of s) (length s.before) × (block_at bs (length s.before) ≡ s.block)
 stands bs s site = subst (λ (l : List Block). StandsAt l (place_of s) (length s.before) × (block_at l (length s.before) ≡ s.block)) site (front s.before s.block s.after)
   where
-    took : (f r : List Block) → take (length f) (f ++ r) ≡ f
-    took [] r = refl
-    took (x ∷ f) r = ap (λ (l : List Block). x ∷ l) (took f r)
-
-    found : (f : List Block) (b : Block) (r : List Block) → block_at (f ++ b ∷ r) (length f) ≡ b
-    found [] b r = refl
-    found (x ∷ f) b r = found f b r
-
     front : (f : List Block) (b : Block) (r : List Block) → StandsAt (f ++ b ∷ r) (words_in f) (length f) × (block_at (f ++ b ∷ r) (length f) ≡ b)
-    front f b r = (record { within = omega (arith, length-append f (b ∷ r)); place = ap words_in (took f (b ∷ r)) }, found f b r)
+    front f b r = (record { within = omega (arith, length-append f (b ∷ r)); place = ap words_in (take_at f (b ∷ r) (length f) refl) }, get_or_at f b r _ (length f) refl)
 
 -- a block that is seen at its place is seen to hold its units
 pub seen_held : (h : HeapState) (s : Site) (m t : ℕ) (xs : List ℕ) (name : Name) (k : ℕ) → IsLawful h → s.block ≡ Live m t xs → IsSiteOf h.blocks s → place_of s ≡ name.at
@@ -216,8 +209,7 @@ held_of h name k s lawful found wants =
 pub stands_held : (h : HeapState) (s : Site) (m t k : ℕ) (xs : List ℕ) → IsLawful h → s.block ≡ Live m t xs → IsSiteOf h.blocks s → held_units m (length xs) ≡ k → held_at h.blocks (place_of s) ≡ Some k
 stands_held h s m t k xs lawful same site holds =
     let there = stands h.blocks s site in
-    let seen : placed_at h.blocks (place_of s) ≡ Some (placed (place_of s) (Live m t xs)) = placed_found lawful.rooms there.0 ∙ ap (λ (b : Block). Some (placed (place_of s) b)) (there.1 ∙ same) in
-    ap held_in seen ∙ ap Some holds
+    ap held_in (placed_found lawful.rooms there.0 ∙ ap (λ (b : Block). Some (placed (place_of s) b)) (there.1 ∙ same)) ∙ ap Some holds
 
 -- k units are held by the block that k units were wanted for
 abbrev pub Gives : ℕ → Outcome Name → Type 0

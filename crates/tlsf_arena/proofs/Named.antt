@@ -1,5 +1,5 @@
 -- The block at the place of a name that is held.
-use Rattle.tlsf_arena.proofs.Common.{◌≡◌, ℕ, ◌+◌, ◌*◌, ◌/◌, ◌<◌, ◌≤◌, ◌≢◌, true, eqb, Bool, List, ◌∷◌, length, Option, Some, None, sym, ap, subst, ◌∙◌, arith, AllByRecursion, eqb-true, false≢true, Block, Live, Free, HeapState, size_of, words_in, Site, place_of, block_at, has_serial, named, IsLawful, HasRoom, placed_at, placed, Name, Holds, IsMapped, free_map, held_at}
+use Rattle.tlsf_arena.proofs.Common.{◌≡◌, ℕ, ◌+◌, ◌*◌, ◌/◌, ◌<◌, ◌≢◌, true, eqb, Bool, List, ◌∷◌, length, Option, Some, None, sym, ap, subst, ◌∙◌, arith, AllByRecursion, eqb-true, false≢true, Block, Live, Free, HeapState, words_in, Site, place_of, block_at, has_serial, named, IsLawful, HasRoom, placed_at, placed, Name, Holds, IsMapped, free_map, held_at}
 use Rattle.tlsf_heap.proofs.lemmas.blocks.Find.{and_left, and_right}
 use Rattle.tlsf_heap.proofs.lemmas.blocks.Lawful.{all_right, words_in-append}
 use Rattle.tlsf_heap.proofs.lemmas.calls.Outcomes.{named_site}
@@ -8,6 +8,7 @@ use Rattle.tlsf_heap.specs.ByPlace.{serial_at, serial_in}
 use Rattle.tlsf_arena.proofs.Maps.{held_of, length-map, stands}
 use Rattle.tlsf_arena.proofs.Spread.{length-spread}
 use Rattle.tlsf_arena.proofs.UnitCases.{by_unit, units_apart}
+use Rattle.tlsf_heap.proofs.lemmas.words.Image.{least}
 
 module _ (h : HeapState) (name : Name) (s : Site) (lawful : IsLawful h) (found : named name h.blocks ≡ Some s) where
   has : has_serial name.serial s.block ≡ true
@@ -33,11 +34,7 @@ module _ (h : HeapState) (name : Name) (s : Site) (lawful : IsLawful h) (found :
   place_within =
       let site = (named_site name h.blocks s found).0 in
       let rooms = all_right HasRoom s.before (s.block ∷ s.after) (subst (AllByRecursion HasRoom) (sym site) lawful.rooms) in
-      omega (arith, place, ap words_in site, words_in-append s.before (s.block ∷ s.after), large s.block rooms.0)
-    where
-      large : (b : Block) → HasRoom b → 4 ≤ size_of b
-      large (Live m t xs) room = room.0
-      large (Free m t) room = room
+      omega (arith, place, ap words_in site, words_in-append s.before (s.block ∷ s.after), least s.block rooms.0)
 
 -- an arena has a unit for each word of its heap
 pub words_mapped : (sli u units : ℕ) (h : HeapState) (free : List Bool) → IsMapped sli u units h free → IsLawful h → words_in h.blocks ≡ units

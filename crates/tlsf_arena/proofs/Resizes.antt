@@ -1,54 +1,50 @@
 -- The map of free units once a block is resized where it stands.
-use Rattle.tlsf_arena.proofs.Common.{◌≡◌, ℕ, ◌+◌, ◌-◌, ◌*◌, ◌<◌, ◌≤◌, Bool, true, false, eqb, nat_le, nat_lt, ◌&&◌, List, [], ◌∷◌, ◌++◌, length, replicate, Some, Ok, refl, sym, ap, subst, ◌∙◌, arith, append_assoc, inl, inr, cond, AllByRecursion, eqb-true, false≢true, cases_lt, nat_tests, append-nil, Block, Live, Free, HeapState, size_of, Site, place_of, IsLawful, HasRoom, Outcome, cut, fitted, recut, refitted, is_sized, room_of, resized_words, first_free, past_free, has_serial, Name, IsRun, marked, spread, free_map, held_units, held_at}
+use Rattle.tlsf_arena.proofs.Common.{◌≡◌, ℕ, ◌+◌, ◌-◌, ◌*◌, ◌<◌, ◌≤◌, Bool, true, false, eqb, nat_le, nat_lt, ◌&&◌, List, [], ◌∷◌, ◌++◌, length, replicate, Some, Ok, refl, sym, ap, subst, ◌∙◌, arith, cond, AllByRecursion, eqb-true, false≢true, nat_tests, Block, Live, Free, HeapState, size_of, Site, place_of, IsLawful, HasRoom, Outcome, fitted, refitted, room_of, resized_words, first_free, past_free, has_serial, Name, IsRun, marked, spread, free_map, held_units, held_at}
 use Rattle.tlsf_heap.proofs.lemmas.blocks.Find.{and_left, and_right}
 use Rattle.tlsf_heap.proofs.lemmas.blocks.Lawful.{all_left, all_right}
 use Rattle.tlsf_heap.proofs.lemmas.calls.Outcomes.{IsSiteOf, by_resized_words, resizes}
-use Rattle.tlsf_heap.proofs.lemmas.words.Recut.{cut_small, cut_large}
 use Rattle.tlsf_heap.proofs.lemmas.words.NewBytes.{length-fitted}
 use Rattle.tlsf_arena.proofs.Rooms.{marked_run}
-use Rattle.tlsf_arena.proofs.Maps.{Tells, map-append, past_map, joined, length-map, held_fit, seen_held}
+use Rattle.tlsf_arena.proofs.Maps.{Bits, Tells, map-append, past_map, joined, length-map, held_fit, seen_held}
 use Rattle.tlsf_arena.proofs.Spread.{spread_run, spread_marked}
 
-abbrev Bits : Type 0
-Bits = List Bool
+whether : {X : Type 0} (P : X → Type 0) (b : Bool) (x y : X) → (b ≡ true → P x) → (b ≡ false → P y) → P (cond b x y)
+whether P true x y f g = f refl
+whether P false x y f g = g refl
 
--- a live block in m units, where n are wanted, is held n units long
-cut_map : (m n tick serial : ℕ) (bytes : List ℕ) → Tells n (length bytes) → n ≤ m → free_map (cut m n tick serial bytes) ≡ replicate n false ++ replicate (m - n) true
-cut_map m n tick serial bytes tells fits = elim (cases_lt m (n + 4)) [
-  | inl small ↦ ap free_map (cut_small m n tick serial bytes small) ∙ live_map m n serial bytes (tells m fits small)
-  | inr large ↦ ap free_map (cut_large m n tick serial bytes large)
-      ∙ ap (λ (j : ℕ). replicate j false ++ (replicate (n - j) true ++ (replicate (m - n) true ++ []))) (tells n (omega arith) (omega arith))
-      ∙ ap (λ (j : ℕ). replicate n false ++ (replicate j true ++ (replicate (m - n) true ++ []))) (let z : n - n ≡ 0 = omega arith in z)
-      ∙ ap (λ (l : Bits). replicate n false ++ l) (append-nil (replicate (m - n) true))
-]
-  where
-    live_map : (m n serial : ℕ) (bytes : List ℕ) → held_units m (length bytes) ≡ n → free_map (Live m serial bytes ∷ []) ≡ replicate n false ++ replicate (m - n) true
-    live_map m n serial bytes holds = ap (λ (j : ℕ). replicate j false ++ (replicate (m - j) true ++ [])) holds ∙ ap (λ (l : Bits). replicate n false ++ l) (append-nil (replicate (m - n) true))
+-- a live block and those after it, once it is resized. It keeps its words, or n of its own and those of the free block after it. Or it
+-- has all of these
+pub by_refit : (P : List Block → Type 0) (tick n len m serial : ℕ) (bytes : List ℕ) (after : List Block)
+    → (n ≤ m → m < n + 4 → P (Live m serial (fitted bytes len) ∷ after))
+    → (n + 4 ≤ m + first_free after → P (Live n serial (fitted bytes len) ∷ Free (m + first_free after - n) tick ∷ past_free after))
+    → (m + first_free after < n + 4 → P (Live (m + first_free after) serial (fitted bytes len) ∷ past_free after))
+    → P (refitted tick n len (Live m serial bytes) after)
+by_refit P tick n len m serial bytes after if_kept if_cut if_all =
+    let new = fitted bytes len in
+    let room = m + first_free after in
+    whether P (nat_le n m && nat_lt m (n + 4)) (Live m serial new ∷ after) _ (λ t. if_kept (grind (arith, nat_tests)) (grind (arith, nat_tests)))
+    (λ _. whether (λ (l : List Block). P (l ++ past_free after)) (nat_le (n + 4) room) (Live n serial new ∷ Free (room - n) tick ∷ []) (Live room serial new ∷ [])
+    (λ t. if_cut (grind (arith, nat_tests))) (λ t. if_all (grind (arith, nat_tests))))
+
+-- its payload then tells as many units as were wanted
+pub told : (n len : ℕ) (bytes : List ℕ) → Tells n len → Tells n (length (fitted bytes len))
+told n len bytes tells size least most = ap (held_units size) (length-fitted bytes len) ∙ tells size least most
 
 -- what stands at a block and behind it, once n units of it are held: of this many free ones
 refitted_map : (tick n len m serial : ℕ) (bytes : List ℕ) (after : List Block) → Tells n len → n ≤ m + first_free after
     → free_map (refitted tick n len (Live m serial bytes) after) ≡ replicate n false ++ (replicate (m + first_free after - n) true ++ free_map (past_free after))
-refitted_map tick n len m serial bytes after tells fits = by_bool (is_sized n (Live m serial bytes)) refl
-  where
-    new : List ℕ
-    new = fitted bytes len
-
-    told : Tells n (length new)
-    told size least most = ap (held_units size) (length-fitted bytes len) ∙ tells size least most
-
-    by_bool : (b : Bool) → is_sized n (Live m serial bytes) ≡ b
-        → free_map (cond b (Live m serial new ∷ after) (recut tick n (Live m serial new) after)) ≡ replicate n false ++ (replicate (m + first_free after - n) true ++ free_map (past_free after))
-    by_bool true e =
-        let least : n ≤ m = grind (arith, nat_tests, and_left (nat_le n m) (nat_lt m (n + 4)) e) in
-        let most : m < n + 4 = grind (arith, nat_tests, and_right (nat_le n m) (nat_lt m (n + 4)) e) in
-        ap (λ (j : ℕ). replicate j false ++ (replicate (m - j) true ++ free_map after)) (told m least most)
-        ∙ ap (λ (l : Bits). replicate n false ++ (replicate (m - n) true ++ l)) (past_map after)
-        ∙ ap (λ (l : Bits). replicate n false ++ l) (joined (m - n) (first_free after) true (free_map (past_free after)))
-        ∙ ap (λ (j : ℕ). replicate n false ++ (replicate j true ++ free_map (past_free after))) (let z : m - n + first_free after ≡ m + first_free after - n = omega (arith, least) in z)
-    by_bool false e =
-        map-append (cut (m + first_free after) n tick serial new) (past_free after)
-        ∙ ap (λ (l : Bits). l ++ free_map (past_free after)) (cut_map (m + first_free after) n tick serial new told fits)
-        ∙ append_assoc (replicate n false) (replicate (m + first_free after - n) true) (free_map (past_free after))
+refitted_map tick n len m serial bytes after tells fits =
+    let own : Tells n (length (fitted bytes len)) = told n len bytes tells in
+    let room = m + first_free after in
+    let rest : Bits = free_map (past_free after) in
+    by_refit (λ l. free_map l ≡ replicate n false ++ (replicate (room - n) true ++ rest)) tick n len m serial bytes after
+    (λ least most. ap (λ (j : ℕ). replicate j false ++ (replicate (m - j) true ++ free_map after)) (own m least most)
+    ∙ ap (λ (l : Bits). replicate n false ++ (replicate (m - n) true ++ l)) (past_map after)
+    ∙ ap (λ (l : Bits). replicate n false ++ l) (joined (m - n) (first_free after) true rest)
+    ∙ ap (λ (j : ℕ). replicate n false ++ (replicate j true ++ rest)) (let z : m - n + first_free after ≡ room - n = omega (arith, least) in z))
+    (λ large. ap (λ (j : ℕ). replicate j false ++ (replicate (n - j) true ++ (replicate (room - n) true ++ rest))) (own n (omega arith) (omega arith))
+    ∙ ap (λ (j : ℕ). replicate n false ++ (replicate j true ++ (replicate (room - n) true ++ rest))) (let z : n - n ≡ 0 = omega arith in z))
+    (λ small. ap (λ (j : ℕ). replicate j false ++ (replicate (room - j) true ++ rest)) (own room fits small))
 
 -- k units of the block of this name are free, and n from the same place on are held
 abbrev pub Refits : HeapState → Name → ℕ → ℕ → Outcome (Unit {0}) → Type 0

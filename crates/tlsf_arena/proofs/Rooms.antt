@@ -1,27 +1,18 @@
 -- The bytes of free units, cut out of the rest and put back. Assumes `Logic`.
-use Rattle.tlsf_arena.proofs.Walking.{◌≡◌, ℕ, zero, suc, ◌+◌, ◌*◌, Bool, true, false, List, [], ◌∷◌, ◌++◌, length, take, replicate, refl, sym, ap, ◌∙◌, arith, length-append, length-replicate, free_rooms, IsRun, marked, Ura, SProp, ent, sep, via, froom, ftrue, Logic, sem, ‵, ◌⊛◌, ◌$◌, ◌∵◌, !, qed, by, move, lose, use1, use2, split, fsplit, fjoin, rewrite, done, nothing, units_of, cuts, glues, resized}
-use Rattle.tlsf_arena.proofs.Common.{drop}
+use Rattle.tlsf_arena.proofs.Walking.{◌≡◌, ℕ, zero, suc, ◌+◌, ◌*◌, Bool, true, false, List, [], ◌∷◌, ◌++◌, length, replicate, refl, sym, ap, ◌∙◌, arith, length-append, length-replicate, free_rooms, IsRun, marked, Ura, SProp, ent, sep, via, froom, ftrue, Logic, sem, ‵, ◌⊛◌, ◌$◌, ◌∵◌, !, qed, by, move, lose, use1, use2, split, fsplit, fjoin, rewrite, done, nothing, units_of, cuts, glues, resized}
+use Rattle.tlsf_arena.proofs.Common.{append_assoc, drop}
+use Rattle.std.proofs.lemmas.List.{drop_at, take_at}
 
 -- ---- maps
 
-pub take_front : (xs ys : List Bool) → take (length xs) (xs ++ ys) ≡ xs
-take_front [] ys = refl
-take_front (x ∷ xs) ys = ap (λ (l : List Bool). x ∷ l) (take_front xs ys)
-
-drop_front : (xs ys : List Bool) → drop (length xs) (xs ++ ys) ≡ ys
-drop_front [] ys = refl
-drop_front (x ∷ xs) ys = drop_front xs ys
-
 pub drop_both : (xs ys zs : List Bool) → drop (length xs + length ys) (xs ++ (ys ++ zs)) ≡ zs
-drop_both [] ys zs = ap (λ (k : ℕ). drop k (ys ++ zs)) (let e : 0 + length ys ≡ length ys = omega arith in e) ∙ drop_front ys zs
-drop_both (x ∷ xs) ys zs = ap (λ (k : ℕ). drop k (x ∷ (xs ++ (ys ++ zs)))) (let e : suc (length xs) + length ys ≡ suc (length xs + length ys) = omega arith in e) ∙ drop_both xs ys zs
+drop_both xs ys zs = ap (drop (length xs + length ys)) (sym (append_assoc xs ys zs)) ∙ drop_at (xs ++ ys) zs (length xs + length ys) (length-append xs ys)
 
 pub marked_is : (p q : List Bool) (k : ℕ) (u v : Bool) → marked (p ++ (replicate k u ++ q)) (length p) k v ≡ p ++ (replicate k v ++ q)
 marked_is p q k u v =
     let many : length p + k ≡ length p + length (replicate k u) = ap (λ (n : ℕ). length p + n) (sym (length-replicate {A = Bool} k u)) in
-    let front = take_front p (replicate k u ++ q) in
     let back = ap (λ (n : ℕ). drop n (p ++ (replicate k u ++ q))) many ∙ drop_both p (replicate k u) q in
-    λ i. front i ++ (replicate k v ++ back i)
+    λ i. (take_at p (replicate k u ++ q) (length p) refl) i ++ (replicate k v ++ back i)
 
 pub marked_run : (free : List Bool) (at k : ℕ) (u v : Bool) (run : IsRun free at k u) → marked free at k v ≡ run.0.0 ++ (replicate k v ++ run.0.1)
 marked_run free at k u v run = (λ i. marked (run.1 i) (sym run.2 i) k v) ∙ marked_is run.0.0 run.0.1 k u v

@@ -1,10 +1,8 @@
 -- A block that grows or shrinks where it stands: the entries of the map that change.
-use Rattle.tlsf_arena.proofs.Common.{◌≡◌, ℕ, ◌+◌, ◌-◌, ◌≤◌, Bool, true, false, List, ◌++◌, length, take, drop, replicate, sym, ap, ◌∙◌, arith, append_assoc, length-append, length-replicate, IsRun, marked}
-use Rattle.tlsf_arena.proofs.Maps.{joined}
-use Rattle.tlsf_arena.proofs.Rooms.{take_front, drop_both, marked_run}
-
-abbrev Bits : Type 0
-Bits = List Bool
+use Rattle.tlsf_arena.proofs.Common.{◌≡◌, ℕ, ◌+◌, ◌-◌, ◌≤◌, Bool, true, false, ◌++◌, length, take, drop, replicate, sym, ap, ◌∙◌, arith, append_assoc, length-append, length-replicate, IsRun, marked, refl}
+use Rattle.tlsf_arena.proofs.Maps.{Bits, joined}
+use Rattle.tlsf_arena.proofs.Rooms.{drop_both, marked_run}
+use Rattle.std.proofs.lemmas.List.{take_at}
 
 -- the first j of k entries, and the others
 parted : (j k : ℕ) (v : Bool) (l : Bits) → j ≤ k → replicate k v ++ l ≡ replicate j v ++ (replicate (k - j) v ++ l)
@@ -19,7 +17,7 @@ grown free at k n within run freed =
     let rest : Bits = replicate (n - k) true ++ Q in
     let lens : length p ≡ length P = run.2 ∙ sym freed.2 in
     let same : p ++ (held ++ q) ≡ P ++ (held ++ rest) = sym (marked_run free at k false true run) ∙ freed.1 ∙ ap (λ (l : Bits). P ++ l) (parted k n true Q within) in
-    let front : p ≡ P = sym (take_front p (held ++ q)) ∙ (λ i. take (lens i) (same i)) ∙ take_front P (held ++ rest) in
+    let front : p ≡ P = sym (take_at p (held ++ q) (length p) refl) ∙ (λ i. take (lens i) (same i)) ∙ take_at P (held ++ rest) (length P) refl in
     let back : q ≡ rest = sym (drop_both p held q) ∙ (λ i. drop (lens i + length held) (same i)) ∙ drop_both P held rest in
     let before : Bits = p ++ replicate k false in
     let run' : IsRun free (at + k) (n - k) true =

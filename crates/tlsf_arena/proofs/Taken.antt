@@ -1,16 +1,17 @@
 -- The two cases of what `take` gave, and a piece as room for a type. Assumes `Logic`.
-use Rattle.tlsf_arena.proofs.Walking.{◌+◌, ◌-◌, ◌*◌, ◌/◌, ◌%◌, ◌≡◌, ℕ, ◌^◌, ◌<◌, ◌≤◌, List, [], ◌∷◌, ◌++◌, IfSome, None, Some, refl, sym, ap, subst, ◌∙◌, arith, IsUnit, piece_size, units_for, IsPiece, Loan, name_of, right, Home, IsLoanAt, ints, ways, behind, block_token, whole_token, Ura, Ty, Val, vcons, vnil, of_list, bytes, ent, sep, GName, fex, fwand, froom, size, capped, Dv, dv→, dv_self, align_w, align-bytes, align_size, capped_is, capped_small, Logic, sem, Item, Goal, Seq, ‵, ◌⊛◌, ◌$◌, ◌∵◌, !, qed, move, drop, use1, use2, split, frame, rewrite, fsplit, fjoin, fpick, fpack, feq_l, done, live, RattleType, Ptr, block_ptr, pure_l, only, Region, bytes_at, units_of, sized_val, sized_own, sized_told}
+use Rattle.tlsf_arena.proofs.Walking.{◌+◌, ◌-◌, ◌*◌, ◌/◌, ◌%◌, ◌≡◌, ℕ, ◌^◌, ◌<◌, ◌≤◌, List, [], ◌∷◌, ◌++◌, IfSome, None, Some, refl, sym, ap, subst, ◌∙◌, arith, IsUnit, piece_size, units_for, IsPiece, Loan, name_of, right, Home, IsLoanAt, ints, ways, behind, block_token, whole_token, Ura, Ty, Val, vcons, vnil, of_list, bytes, ent, sep, GName, fex, fwand, froom, size, capped, Dv, dv→, dv_self, align_w, align-bytes, align_size, capped_is, capped_small, Logic, sem, Item, Goal, Seq, ‵, ◌⊛◌, ◌$◌, ◌∵◌, !, qed, move, drop, use1, use2, split, frame, rewrite, fsplit, fjoin, fpick, fpack, feq_l, done, live, RattleType, Ptr, block_ptr, pure_l, only, Region, bytes_at, units_of, sized_val, sized_own, sized_told, pair_val, lease_val, lease_own, lease_told, vstruct, fsplit3, Tuple}
 use Rattle.core.specs.contracts.option.Option as option
 use Rattle.tlsf_arena.specs.Loans.{units_of as units_in}
-use Rattle.tlsf_arena.specs.contracts.grant.Grant as grant
+use Rattle.tlsf_arena.specs.contracts.piece.Piece as piece
+use Rattle.tlsf_arena.specs.contracts.right.Right as lease
 use Rattle.tlsf_arena.proofs.UnitCases.{piece_holds}
 use Rattle.tlsf_arena.proofs.Ways.{exact, opens, closes, ints_cut, ints_glue}
 
 abbrev pub Taken : RattleType
-Taken = option.the_row grant.the_row
+Taken = option.the_row (Tuple (piece.the_row ∷ lease.the_row ∷ []))
 
 abbrev pub Told : ℕ → Home → ℕ → ℕ → Taken.Denot → Type 0
-Told u h n a x = IfSome x (λ g. (g.region ≡ h.0) × (g.book ≡ h.1) × (g.size ≡ piece_size u n) × (g.at ≡ g.region.start + u * (name_of g.loan).at) × (units_in g.loan ≡ units_for u n) × (n < 2 ^ 63) × (a ≤ 16))
+Told u h n a x = IfSome x (λ g. (g.0.region ≡ h.0) × (g.1.book ≡ h.1) × (g.0.size ≡ piece_size u n) × (g.0.at ≡ g.0.region.start + u * (name_of g.1.loan).at) × (units_in g.1.loan ≡ units_for u n) × (n < 2 ^ 63) × (a ≤ 16))
 
 pub even : (τ : Ty) → size τ % bytes (align_w τ) ≡ 0
 even τ = dv→ (bytes (align_w τ)) (size τ) (subst (λ (k : ℕ). Dv k (size τ)) (align-bytes τ) (align_size τ))
@@ -35,8 +36,7 @@ fits_out {𝓤 = 𝓤} 𝓛 u unit r τ at is =
     let w = align_w τ in
     let k = m / 16 in
     let whole : m ≡ 16 * k = omega (arith, is.4.1) in
-    let holds : size τ ≤ m = piece_holds u (size τ) unit in
-    let parts : 16 * k ≡ size τ + (m - size τ) = omega (arith, whole, holds) in
+    let parts : 16 * k ≡ size τ + (m - size τ) = omega (arith, whole, piece_holds u (size τ) unit) in
     qed 𝓛 (‵ (froom (units_of m) r.block at) ∷ []) ∵ rewrite ! 0 (λ (n : ℕ). ‵ (froom (units_of n) r.block at)) whole refl $
     use1 𝓛 (‵ (froom (ints w (16 * k)) r.block at) ⊛ ‵ (ways w r.block at k)) (opens 𝓛 w r.block at k) $ split ! $
     rewrite ! 0 (λ (n : ℕ). ‵ (froom (ints w n) r.block at)) parts refl $
@@ -53,8 +53,7 @@ takes_in {𝓤 = 𝓤} 𝓛 u unit r τ at grains =
     let w = align_w τ in
     let k = m / 16 in
     let whole : m ≡ 16 * k = omega (arith, grains) in
-    let holds : size τ ≤ m = piece_holds u (size τ) unit in
-    let parts : 16 * k ≡ size τ + (m - size τ) = omega (arith, whole, holds) in
+    let parts : 16 * k ≡ size τ + (m - size τ) = omega (arith, whole, piece_holds u (size τ) unit) in
     qed 𝓛 (‵ (froom τ r.block at) ∷ ‵ (behind τ r.block at m) ∷ []) ∵
     use1 𝓛 (‵ (froom (ints w (size τ)) r.block at)) (as_ints 𝓛 τ r.block at) $ move ! (1 ∷ []) $ fsplit ! $ move ! (2 ∷ 0 ∷ []) $
     use2 𝓛 (‵ (froom (ints w (size τ + (m - size τ))) r.block at)) (ints_glue 𝓛 w r.block at (size τ) (m - size τ) (even τ)) $
@@ -75,19 +74,20 @@ hands_out {𝓤 = 𝓤} 𝓛 u unit h τ at n t sized placed lent small =
 
 module _ {M : Type 1} {𝓤 : Ura M} {𝓛 : Logic 𝓤} {K : Type 0} {Γ : List (Item 𝓤)} {G : Goal 𝓤 𝓛.H} where
   pub taken : K → (u : ℕ) (h : Home) (n a : ℕ) (x : Taken.Denot) (v : Val) → Told u h n a x
-      → ((at : ℕ) (l : Loan) → IsPiece h.0 (block_ptr h.0.block at) at (piece_size u n) → IsLoanAt u h.0 (block_ptr h.0.block at) n l → piece_size u n < 2 ^ 64 → n < 2 ^ 63 → a ≤ 16 → v ≡ live 1 (vcons (sized_val (block_ptr h.0.block at) (piece_size u n)) vnil)
+      → ((at : ℕ) (l : Loan) → IsPiece h.0 (block_ptr h.0.block at) at (piece_size u n) → IsLoanAt u h.0 (block_ptr h.0.block at) n l → piece_size u n < 2 ^ 64 → n < 2 ^ 63 → a ≤ 16 → v ≡ live 1 (vcons (pair_val (sized_val (block_ptr h.0.block at) (piece_size u n)) lease_val) vnil)
       → Seq K 𝓛 (‵ (bytes_at (block_ptr h.0.block at) (piece_size u n)) ∷ ‵ (right h.1 l) ∷ Γ) G) → (v ≡ live 0 vnil → Seq K 𝓛 Γ G) → Seq K 𝓛 (‵ (Taken.own_val x (v ∷ [])) ∷ Γ) G
   taken t u h n a None v told some none =
       fpick t (λ us. fsplit t $ feq_l t (λ is. fpick t (λ vss. fsplit t $ feq_l t (λ is'. drop t $ none (ap only is ∙ ap (λ (ws : List Val). live 0 (of_list ws)) is')))))
-  taken t u h n a (Some w) v told some none =
-      fpick t (λ us. fsplit t $ feq_l t (λ is. fpick t (λ vss. fsplit t $ feq_l t (λ is'. fsplit t $ move t (1 ∷ []) $ drop t $ fsplit t $ pure_l t (sized_own w.ptr w.size vss.0) (λ s.
-      let parts = sized_told w.ptr w.size vss.0 s in
+  taken t u h n a (Some (w, o)) v told some none =
+      fpick t (λ us. fsplit t $ feq_l t (λ is. fpick t (λ vss. fsplit t $ feq_l t (λ is'. fsplit t $ move t (1 ∷ []) $ drop t $ fpick t (λ ts. fsplit t $ feq_l t (λ pair. fsplit3 t $ move t (2 ∷ []) $ drop t $ fsplit t $ pure_l t (sized_own w.ptr w.size ts.0) (λ s.
+      move t (1 ∷ []) $ fsplit t $ pure_l t (lease_own ts.1.0) (λ s'.
+      let parts = sized_told w.ptr w.size ts.0 s in
       let r : Region = h.0 in
       let long : w.size ≡ piece_size u n = told.2 in
       let lies : w.ptr ≡ block_ptr r.block w.at = w.placed.0 ∙ ap (λ (g : Region). block_ptr g.block w.at) told.0 in
       let placed : IsPiece r (block_ptr r.block w.at) w.at (piece_size u n) = subst (λ (g : Region × Ptr × ℕ). IsPiece g.0 g.1 w.at g.2) (λ i. (told.0 i, lies i, long i)) w.placed in
-      let begins : w.at ≡ r.start + u * (name_of w.loan).at = told.3 ∙ ap (λ (g : Region). g.start + u * (name_of w.loan).at) told.0 in
-      let lent : IsLoanAt u r (block_ptr r.block w.at) n w.loan = (ap (block_ptr r.block) begins, told.4) in
-      fsplit t $ rewrite t 0 (λ (g : Ptr × ℕ). ‵ (bytes_at g.0 g.1)) (λ i. (lies i, long i)) refl $ rewrite t 1 (λ (γ : GName). ‵ (right γ w.loan)) told.1 refl $
-      some w.at w.loan placed lent (subst (λ (k : ℕ). k < 2 ^ 64) long parts.1) told.5 told.6
-      (ap only is ∙ ap (λ (xs : List Val). live 1 (of_list xs)) (is' ∙ ap (λ (xs : List Val). xs ++ []) parts.0) ∙ (λ i. live 1 (vcons (sized_val (lies i) (long i)) vnil))))))))
+      let begins : w.at ≡ r.start + u * (name_of o.loan).at = told.3 ∙ ap (λ (g : Region). g.start + u * (name_of o.loan).at) told.0 in
+      let lent : IsLoanAt u r (block_ptr r.block w.at) n o.loan = (ap (block_ptr r.block) begins, told.4) in
+      move t (1 ∷ []) $ rewrite t 0 (λ (g : Ptr × ℕ). ‵ (bytes_at g.0 g.1)) (λ i. (lies i, long i)) refl $ rewrite t 1 (λ (γ : GName). ‵ (right γ o.loan)) told.1 refl $
+      some w.at o.loan placed lent (subst (λ (k : ℕ). k < 2 ^ 64) long parts.1) told.5 told.6
+      (ap only is ∙ ap (λ (xs : List Val). live 1 (of_list xs)) (is' ∙ ap (λ (xs : List Val). xs ++ []) (pair ∙ (λ i. vstruct (of_list (parts.0 i ++ ((lease_told ts.1.0 s').0 i ++ []))) ∷ []))) ∙ (λ i. live 1 (vcons (pair_val (sized_val (lies i) (long i)) lease_val) vnil)))))))))))

@@ -1,5 +1,5 @@
 -- The names that the walks of this crate cite, passed on from one place, as Common does for its other proofs. Declares nothing.
-pub use Rattle.tlsf_arena.proofs.Common.{[], ◌∷◌, refl, List, ◌≡◌, ◌++◌, leaves, proved_at, Goes-blank, ◌∙◌, ℕ, sym, ap, ◌*◌, arith, ◌^◌, ◌<◌, pair_of, pair_val, ◌+◌, subst, true, ◌-◌, ◌/◌, ◌≤◌, after, Home, and_tt, false, block_with_items, fm, IsPiece, El, suc, ◌%◌, piece_size, Loan, behind, Bool, IsUnit, right, ways, whole_token, lit<, length, replicate, free_rooms, rest_of, Some, ints, Ok, Err, head, arm_body, zero, length-replicate, IsRun, marked, None, IsLoanAt, block_token, array_of, is_out, lodged, round, times_below, Answer, answer_val, Answer-Ok, Answer-err, length-append, IfSome, name_of, eqb, eq-eqb, without, Vec, T, one, Decides, FitsBlock, Al, seen, take, units_for, MatchResult, room_split, glued, add_times, suc-mul, cond, not, ◌&&◌, ◌||◌, eqb-true, and_from, or_from, false_from_ne_true, true≢false, same_loan, rights, row, ne_eqb, not_from_false, handle_tells, owns_if, has_block, Good, wraps, unwraps, pair_Typed, ltb, Decides-ltb, eqb→eq, T_not, false≢true, grain_of, Takes, at_takes, Answered, Takes-goes, Takes-gives, answers, Gives, at_gives, Gives-goes, Gives-Gives}
+pub use Rattle.tlsf_arena.proofs.Common.{[], ◌∷◌, refl, List, ◌≡◌, ◌++◌, leaves, proved_at, Goes-blank, ◌∙◌, ℕ, sym, ap, ◌*◌, arith, ◌^◌, ◌<◌, pair_of, pair_val, ◌+◌, subst, true, ◌-◌, ◌/◌, ◌≤◌, after, Home, and_tt, false, block_with_items, fm, IsPiece, El, suc, ◌%◌, piece_size, Loan, behind, Bool, IsUnit, right, ways, whole_token, lit<, length, replicate, free_rooms, rest_of, Some, ints, Ok, Err, head, arm_body, zero, length-replicate, IsRun, marked, None, IsLoanAt, block_token, array_of, is_out, lodged, round, times_below, Answer, answer_val, Answer-Ok, Answer-err, length-append, IfSome, name_of, eqb, eq-eqb, without, Vec, T, one, Decides, FitsBlock, Al, seen, units_for, MatchResult, room_split, glued, add_times, suc-mul, cond, not, ◌&&◌, ◌||◌, eqb-true, and_from, or_from, false_from_ne_true, true≢false, same_loan, rights, row, ne_eqb, not_from_false, handle_tells, owns_if, has_block, Good, wraps, unwraps, pair_Typed, ltb, Decides-ltb, eqb→eq, T_not, false≢true, grain_of, Takes, at_takes, Answered, Takes-goes, Takes-gives, answers, Gives, at_gives, Gives-goes, Gives-Gives}
 pub use base.Fml.{ftrue, flft, Lft, Share, froom, fex, GName, fsep, ffalse, Fml, ftok, fwand, Incl-refl, fat, fbor, feq}
 pub use base.Fraction.{full_share}
 pub use base.Logic.{SProp, emp, id⊢, sep, ent, never, fst∗, wand, apply∗, via, ex, guard, guard_i, guard_e}

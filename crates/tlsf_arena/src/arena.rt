@@ -92,8 +92,7 @@ impl<const SLI: u32, const UNIT: usize> Arena<SLI, UNIT> {
             return Err(OpenFault::NoMemory);
         };
         let lease = lease.located();
-        let (base, memory) = memory.with_ptr();
-        let space = Space::new(memory);
+        let (base, space) = Space::new(memory);
         Ok(Arena {
             heap,
             space,
@@ -137,8 +136,7 @@ impl<const SLI: u32, const UNIT: usize> Arena<SLI, UNIT> {
         let Ok(heap) = Box::new(alloc, heap) else {
             return Err((OpenFault::NoMemory, memory));
         };
-        let (base, memory) = memory.with_ptr();
-        let space = Space::new(memory);
+        let (base, space) = Space::new(memory);
         Ok(Arena {
             heap,
             space,

@@ -27,7 +27,6 @@ mod buffer;
 mod buffer_grant;
 mod filled_block;
 mod filled_piece;
-mod grant;
 mod husk;
 mod local;
 mod memory;

@@ -10,7 +10,6 @@ use crate::block::Block;
 use crate::boxed::BoxedArena;
 use crate::buffer::Buffer;
 use crate::buffer_grant::BufferGrant;
-use crate::grant::Grant;
 use crate::memory::GRAIN;
 use crate::piece::Piece;
 use crate::right::Right;
@@ -79,8 +78,8 @@ impl<const SLI: u32, const UNIT: usize> LocalArena<SLI, UNIT> {
 
     // The slot is empty only while one of the functions here runs, and they call nothing that
     // could come back here.
-    fn take(&self, size: usize, align: usize) -> Option<Grant>
-        ensures { IfSome result (λ g. (g.region ≡ self.now.slot.0) × (g.book ≡ self.now.slot.1) × (g.size ≡ piece_size UNIT size) × (g.at ≡ g.region.start + UNIT * (name_of g.loan).at) × (units_in g.loan ≡ units_for UNIT size) × (size < 2 ^ 63) × (align ≤ 16)) }
+    fn take(&self, size: usize, align: usize) -> Option<(Piece, Right)>
+        ensures { IfSome result (λ g. (g.0.region ≡ self.now.slot.0) × (g.1.book ≡ self.now.slot.1) × (g.0.size ≡ piece_size UNIT size) × (g.0.at ≡ g.0.region.start + UNIT * (name_of g.1.loan).at) × (units_in g.1.loan ≡ units_for UNIT size) × (size < 2 ^ 63) × (align ≤ 16)) }
     {
         if align > GRAIN || size > u32::MAX as usize {
             return None;
@@ -92,7 +91,7 @@ impl<const SLI: u32, const UNIT: usize> LocalArena<SLI, UNIT> {
             Ok(Block { name, piece, right }) => {
                 self.before_last.set(self.last.get());
                 self.last.set(name.at);
-                Some(Grant::new(piece, right))
+                Some((piece, right))
             }
             Err(_) => None,
         }
@@ -146,10 +145,9 @@ impl<const SLI: u32, const UNIT: usize> LocalArena<SLI, UNIT> {
             Ok((buffer, right)) => return Ok(BufferGrant::of_parts(buffer, right)),
             Err(parts) => parts,
         };
-        let Some(grant) = self.take(new_cap * size_of::<T>(), GRAIN) else {
+        let Some((piece, new_right)) = self.take(new_cap * size_of::<T>(), GRAIN) else {
             return Err(BufferGrant::of_parts(buffer, right));
         };
-        let (piece, new_right) = grant.into_parts();
         let (buffer, old) = buffer.move_to(piece, len, new_cap, old_size);
         self.give(old, right);
         Ok(BufferGrant::of_parts(buffer, new_right))
@@ -236,7 +234,7 @@ unsafe impl<const SLI: u32, const UNIT: usize> Allocator for LocalArena<SLI, UNI
 
     fn allocate(&self, size: usize, align: usize) -> Result<*mut u8, AllocError> {
         match self.take(size, align) {
-            Some(Grant { ptr, size: _ }) => Ok(ptr),
+            Some((Piece { ptr, size: _ }, Right { marker: _ })) => Ok(ptr),
             None => Err(AllocError),
         }
     }

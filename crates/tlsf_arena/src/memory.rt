@@ -78,14 +78,6 @@ impl Memory {
         }
     }
 
-    // The address, and the memory again.
-    pub(crate) fn with_ptr(self) -> (*mut u8, Memory)
-        ensures { (result.0 ≡ self.ptr) × (result.1 ≡ self) }
-    {
-        let Memory { ptr, size } = self;
-        (ptr, Memory { ptr, size })
-    }
-
     // Gives it back to the parent, all of its bytes. Nothing else makes a `Freed`.
     pub(crate) fn give_back<A: Allocator>(self, size: usize, lease: Lease<A>, alloc: &A) -> Freed
         requires size { size ≡ self.size }

@@ -51,8 +51,8 @@ impl Piece {
     pub fn with_size(self) -> (usize, Piece)
         ensures { (result.0 ≡ self.size) × (result.1 ≡ self) }
     {
-        let Piece { ptr, size } = self;
-        (size, Piece { ptr, size })
+        let ((_, size), piece) = self.with_parts();
+        (size, piece)
     }
 
     /// The piece's address, a multiple of 16, and the piece again.
@@ -63,8 +63,16 @@ impl Piece {
     pub fn with_ptr(self) -> (*mut u8, Piece)
         ensures { (result.0 ≡ self.ptr) × (result.1 ≡ self) }
     {
+        let ((ptr, _), piece) = self.with_parts();
+        (ptr, piece)
+    }
+
+    // Both, and the piece again.
+    fn with_parts(self) -> ((*mut u8, usize), Piece)
+        ensures { (result.0.0 ≡ self.ptr) × (result.0.1 ≡ self.size) × (result.1 ≡ self) }
+    {
         let Piece { ptr, size } = self;
-        (ptr, Piece { ptr, size })
+        ((ptr, size), Piece { ptr, size })
     }
 
     /// The piece's address and size. The caller owns the bytes from here on, and [`Piece::from_raw_parts`] makes the piece of them again.

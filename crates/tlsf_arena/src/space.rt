@@ -25,12 +25,13 @@ impl Model for Space {
 }
 
 impl Space {
-    pub(crate) fn new(memory: Memory) -> Space
+    // All of the memory is free. Its address comes besides, since a `&` to the space shows none.
+    pub(crate) fn new(memory: Memory) -> (*mut u8, Space)
         requires { count_of memory.ptr + memory.size < 2 ^ 63 }
-        ensures { (result.region ≡ region_of memory.ptr memory.size) × (result.base ≡ memory.ptr) × (result.free ≡ replicate (memory.size / 16) true) }
+        ensures { (result.0 ≡ memory.ptr) × (result.1.region ≡ region_of memory.ptr memory.size) × (result.1.base ≡ memory.ptr) × (result.1.free ≡ replicate (memory.size / 16) true) }
     {
         let Memory { ptr, size: _ } = memory;
-        Space { base: ptr }
+        (ptr, Space { base: ptr })
     }
 
     // All of the memory, where every grain is free.

@@ -1,5 +1,6 @@
 -- The slots after a look at each in turn.
-use Rattle.tlsf_pool_arena.proofs.Common.{◌≡◌, ℕ, suc, zero, ◌+◌, ◌*◌, ◌<◌, ◌≤◌, Bool, true, false, List, [], ◌∷◌, ◌++◌, length, length-append, length-set, set, slice_get, subst, take, Option, Some, None, refl, sym, ap, ◌∙◌, inl, inr, append_assoc, append-nil, arith, cases_eq, false≢true, HeapState, last_tick, released, GoesOn, RemoteState, LookedInTime, TakesHome, home_from, home_released, looks_from, still_away, Parcel}
+use Rattle.tlsf_pool_arena.proofs.Common.{◌≡◌, ℕ, suc, ◌+◌, ◌*◌, ◌<◌, ◌≤◌, Bool, true, false, List, [], ◌∷◌, ◌++◌, length, length-append, length-set, set, slice_get, subst, take, Option, Some, None, refl, sym, ap, ◌∙◌, inl, inr, append_assoc, append-nil, arith, cases_eq, false≢true, HeapState, last_tick, released, GoesOn, RemoteState, LookedInTime, TakesHome, home_from, home_released, looks_from, still_away, Parcel}
+use Rattle.std.proofs.lemmas.List.{take-append-le, take_all}
 
 -- ---- what one look more comes to
 
@@ -20,16 +21,6 @@ home_off : (k : ℕ) (seen : List Bool) → home_from k (seen ++ false ∷ []) �
 home_off k [] = refl
 home_off k (true ∷ seen) = ap (λ (l : List ℕ). k ∷ l) (home_off (k + 1) seen)
 home_off k (false ∷ seen) = home_off (k + 1) seen
-
--- the first looks are the same after one more
-front_of : (k : ℕ) (seen : List Bool) (home : Bool) → k ≤ length seen → take k (seen ++ home ∷ []) ≡ take k seen
-front_of zero seen home few = refl
-front_of (suc k) [] home few = absurd (omega (arith, few))
-front_of (suc k) (was ∷ seen) home few = ap (λ (l : List Bool). was ∷ l) (front_of k seen home (omega (arith, few)))
-
-take_all : (seen : List Bool) → take (length seen) seen ≡ seen
-take_all [] = refl
-take_all (was ∷ seen) = ap (λ (l : List Bool). was ∷ l) (take_all seen)
 
 abbrev Away : ℕ → Type 0
 Away u = List (Option (Parcel u))
@@ -81,10 +72,10 @@ module _ {u : ℕ} where
 
   in_time_on : (h : HeapState) (away : Away u) (seen : List Bool) (home : Bool) → LookedInTime h away seen → ¬ ((home_released h away seen).tick ≡ last_tick) → LookedInTime h away (seen ++ home ∷ [])
   in_time_on h away seen home was fresh k inside = elim (cases_eq k (length seen)) [
-    | inl last ↦ subst (λ (l : List Bool). ¬ ((home_released h away l).tick ≡ last_tick)) (sym (ap (λ (j : ℕ). take j (seen ++ home ∷ [])) last ∙ front_of (length seen) seen home (omega arith) ∙ take_all seen)) fresh
+    | inl last ↦ subst (λ (l : List Bool). ¬ ((home_released h away l).tick ≡ last_tick)) (sym (ap (λ (j : ℕ). take j (seen ++ home ∷ [])) last ∙ take-append-le (length seen) seen (home ∷ []) (omega arith) ∙ take_all (length seen) seen (omega arith))) fresh
     | inr before ↦
         let sooner : k < length seen = omega (arith, inside, before, length-append seen (home ∷ [])) in
-        subst (λ (l : List Bool). ¬ ((home_released h away l).tick ≡ last_tick)) (sym (front_of k seen home (omega (arith, sooner)))) (was k sooner)
+        subst (λ (l : List Bool). ¬ ((home_released h away l).tick ≡ last_tick)) (sym (take-append-le k seen (home ∷ []) (omega (arith, sooner)))) (was k sooner)
   ]
 
 -- the first n slots were looked at, unless the last tick came

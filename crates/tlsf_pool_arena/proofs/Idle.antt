@@ -1,41 +1,25 @@
 -- The slots by which no block is away, while blocks go out and come home.
 use Rattle.tlsf_pool_arena.proofs.Common.{◌≡◌, ◌≢◌, ◌↔◌, ℕ, zero, suc, ◌+◌, ◌-◌, ◌<◌, ◌≤◌, cond, List, [], ◌∷◌, ◌++◌, length, length-set, set, take, slice_get, slice_index_or, replicate, Option, Some, None, is_none, Result, IsErrOf, Err, refl, sym, ap, subst, ◌∙◌, ◌⊎◌, inl, inr, ⊎_elim, arith, PoolArenaState, Parcel, AreIdle, NoneLost, RemoteState, idle_slots}
 use Rattle.std.specs.List.{range_with_len}
-use Rattle.std.proofs.lemmas.List.FromFn.{length-range_with_len}
+use Rattle.std.proofs.lemmas.List.FromFn.{length-range_with_len, map-range_with_len_more}
 use Rattle.std.proofs.lemmas.List.Sums.{sum_by-cons, sum_by-set}
 use Rattle.std.proofs.lemmas.Option.{slice_get-get_or, slice_get_within}
 use Rattle.tlsf_pool.specs.declared.pools.pool_refusal.PoolRefusal.{PoolRefusal}
 use Rattle.tlsf_pool.specs.declared.pools.pool_refusal.PoolRefusal.TheVariants.{Full}
 use Rattle.tlsf_pool_arena.proofs.Lent.{got_set}
-
-one_more : (a n : ℕ) → range_with_len a (suc n) ≡ range_with_len a n ++ (a + n) ∷ []
-one_more a zero = ap (λ (j : ℕ). j ∷ []) (let e : a ≡ a + 0 = omega arith in e)
-one_more a (suc n) = ap (λ (l : List ℕ). a ∷ l) (one_more (a + 1) n ∙ ap (λ (j : ℕ). range_with_len (a + 1) n ++ j ∷ []) (let e : a + 1 + n ≡ a + suc n = omega arith in e))
+use Rattle.std.proofs.lemmas.List.{map-id, length-replicate, get_or-replicate, get_or-set_same, take_more_set}
 
 pub next_range : (at : ℕ) → range_with_len 0 at ++ at ∷ [] ≡ range_with_len 0 (at + 1)
 next_range at =
-    sym (one_more 0 at ∙ ap (λ (j : ℕ). range_with_len 0 at ++ j ∷ []) (let e : 0 + at ≡ at = omega arith in e)) ∙ ap (λ (j : ℕ). range_with_len 0 j) (let e : suc at ≡ at + 1 = omega arith in e)
-
--- all of a list
-pub take_all : (l : List ℕ) (n : ℕ) → n ≡ length l → take n l ≡ l
-take_all [] zero e = refl
-take_all [] (suc n) e = refl
-take_all (x ∷ l) zero e = absurd (omega (arith, e))
-take_all (x ∷ l) (suc n) e = ap (λ (l : List ℕ). x ∷ l) (take_all l n (omega (arith, e)))
+    ap (λ (l : List ℕ). l ++ at ∷ []) (sym (map-id (range_with_len 0 at))) ∙ sym (map-range_with_len_more (λ (j : ℕ). j) 0 at at (omega arith)) ∙ map-id (range_with_len 0 (at + 1))
 
 got_range : (a n k at : ℕ) → slice_get (range_with_len a n) k ≡ Some at → at ≡ a + k
 got_range a zero k at e = absurd (let no : ⊥ = cc in no)
 got_range a (suc n) zero at e = let same : a ≡ at = cc in omega (arith, same)
 got_range a (suc n) (suc k) at e = let h = got_range (a + 1) n k at e in omega (arith, h)
 
-pub copies_long : {A : Type 0} (n : ℕ) (a : A) → length (replicate n a) ≡ n
-copies_long zero a = refl
-copies_long (suc n) a = ap suc (copies_long n a)
-
 got_copy : {A : Type 0} (n k : ℕ) (a : A) → k < n → slice_get (replicate n a) k ≡ Some a
-got_copy zero k a lt = absurd (omega (arith, lt))
-got_copy (suc n) zero a lt = refl
-got_copy (suc n) (suc k) a lt = got_copy n k a (omega (arith, lt))
+got_copy n k a lt = slice_get-get_or (replicate n a) k a (omega (arith, lt, length-replicate n a)) ∙ ap Some (get_or-replicate n k a a lt)
 
 -- the entries up to one, with it
 up_to : (l : List ℕ) (m at : ℕ) → slice_get l m ≡ Some at → take (suc m) l ≡ take m l ++ at ∷ []
@@ -44,9 +28,7 @@ up_to (x ∷ l) zero at e = let same : x ≡ at = cc in ap (λ (j : ℕ). j ∷ 
 up_to (x ∷ l) (suc m) at e = ap (λ (l : List ℕ). x ∷ l) (up_to l m at e)
 
 up_to_set : (l : List ℕ) (m at : ℕ) → m < length l → take (suc m) (set l m at) ≡ take m l ++ at ∷ []
-up_to_set [] m at lt = absurd (omega (arith, lt))
-up_to_set (x ∷ l) zero at lt = refl
-up_to_set (x ∷ l) (suc m) at lt = ap (λ (l : List ℕ). x ∷ l) (up_to_set l m at (omega (arith, lt)))
+up_to_set l m at lt = let next : suc m ≡ m + 1 = omega arith in ap (λ (j : ℕ). take j (set l m at)) next ∙ take_more_set l m at lt
 
 -- an entry that was changed, or another
 same_or_other : {A : Type 0} (l : List A) (at k : ℕ) (a : A) → (k ≡ at) ⊎ (slice_get (set l at a) k ≡ slice_get l k)
@@ -57,9 +39,8 @@ same_or_other (x ∷ l) (suc at) zero a = inr refl
 same_or_other (x ∷ l) (suc at) (suc k) a = ⊎_elim (λ e. inl (ap suc e)) (λ e. inr e) (same_or_other l at k a)
 
 got_there : {A : Type 0} (l : List A) (at : ℕ) (a b : A) → slice_get l at ≡ Some a → slice_get (set l at b) at ≡ Some b
-got_there [] at a b e = absurd (let no : ⊥ = cc in no)
-got_there (x ∷ l) zero a b e = refl
-got_there (x ∷ l) (suc at) a b e = got_there l at a b e
+got_there l at a b e =
+    let within = slice_get_within l at a e in slice_get-get_or (set l at b) at b (omega (arith, within, length-set l at b)) ∙ ap Some (get_or-set_same l at b b within)
 
 -- how many slots are idle at first, once a block went out by one of them, and once it came home
 fresh_slots : (u n : ℕ) → idle_slots {u = u} (replicate n None) ≡ n
@@ -98,9 +79,8 @@ module _ {u : ℕ} where
         let slot = got_range 0 count k at (ap (λ (l : List ℕ). slice_get l k) (sym is) ∙ e) in
         ap (λ (l : List (Option (Parcel u))). slice_get l at) none ∙ got_copy count at None (omega (arith, slot, lt, most));
     apart = λ j k at lt_j lt_k at_j at_k.
-        let first = got_range 0 count j at (ap (λ (l : List ℕ). slice_get l j) (sym is) ∙ at_j) in
         let second = got_range 0 count k at (ap (λ (l : List ℕ). slice_get l k) (sym is) ∙ at_k) in
-        omega (arith, first, second);
+        omega (arith, got_range 0 count j at (ap (λ (l : List ℕ). slice_get l j) (sym is) ∙ at_j), second);
   }
 
   -- equally many of them by another count

@@ -1,21 +1,19 @@
 -- An arena of mixed sizes: a new one, what its calls leave, and that a request finds room.
-use Rattle.tlsf_pool_arena.proofs.Common.{◌≡◌, ℕ, ◌+◌, ◌<◌, ◌≤◌, ◌++◌, Result, Ok, Err, [], refl, sym, subst, arith, HeapState, size_of, want, Outcome, Release, Released, allocated_words, carved, released, resized_words, live_count, requested, IsUnit, lacking, units_for}
+use Rattle.tlsf_pool_arena.proofs.Common.{◌≡◌, ℕ, ◌+◌, ◌<◌, ◌≤◌, Result, Ok, Err, [], refl, sym, subst, arith, HeapState, want, Release, Released, allocated_words, released, resized_words, live_count, requested, IsUnit, lacking, units_for}
 use Rattle.tlsf_class.specs.Classes.{IsLevel, most_words}
 use Rattle.tlsf_heap.specs.GoodFit.{fits}
 use Rattle.tlsf_heap.specs.declared.name.Name.{Name}
 use Rattle.tlsf_heap.specs.declared.refusal.Refusal.{Refusal}
-use Rattle.tlsf_heap.proofs.lemmas.blocks.Find.{and_left}
-use Rattle.tlsf_heap.proofs.lemmas.blocks.Lawful.{all_append}
 use Rattle.tlsf_heap.proofs.lemmas.calls.Outcomes.{by_allocated_words, by_resized_words, gives_words, lawful_allocated_words, lawful_resized_words, resizes}
 use Rattle.tlsf_heap.proofs.lemmas.laws.NoFit.{no_fit}
 use Rattle.tlsf_pool.specs.laws.Held.{held_after}
 use Rattle.tlsf_pool.specs.laws.FixedSize.{HasFixedSize}
 use Rattle.tlsf_pool.specs.laws.MixedSizes.{IsSmall}
-use Rattle.tlsf_pool.proofs.lemmas.laws.Around.{around_site}
+use Rattle.tlsf_pool.proofs.lemmas.laws.Around.{all_allocated, all_resized}
 use Rattle.tlsf_pool.proofs.lemmas.laws.FixedSize.{fixed_kept}
 use Rattle.tlsf_pool.proofs.lemmas.laws.Held.{counted, held_is, one}
-use Rattle.tlsf_pool.proofs.lemmas.laws.Loads.{load_given_words, load_resized_words}
-use Rattle.tlsf_pool.proofs.lemmas.laws.ModestCalls.{AreSmall, InMixed, has_room, kept, opens, region_is, small_carved, small_refitted}
+use Rattle.tlsf_pool.proofs.lemmas.laws.Loads.{load_given, load_resized}
+use Rattle.tlsf_pool.proofs.lemmas.laws.ModestCalls.{AreSmall, InMixed, has_room, kept, opens, region_is, free_small, small_suits}
 use Rattle.tlsf_arena.specs.Arenas.{refitted as refitted_to}
 use Rattle.tlsf_pool_arena.specs.MixedUnits.{IsMixedArena, MixedUnitsAreKept, MixedUnitsBegin, MixedUnitsFindRoom, length_for}
 use Rattle.tlsf_pool_arena.proofs.UnitWords.{lacks_few, least_units, lengths_rise, units_rise, wants_units}
@@ -59,10 +57,6 @@ module _ (sli u : ℕ) (level : IsLevel sli) (unit : IsUnit u) (most longest : �
         has_room sli level h.words most (length_for u longest) in_class is.words h (length_for u len) in_mixed (lengths_rise u len longest unit short) few
         ((no_fit sli h (length_for u len)).1 (subst (λ (n : ℕ). fits sli n h.blocks ≡ []) (sym (wants_units u len)) none))
 
-    -- what a call leaves beside a lawful heap
-    abbrev Left : {A : Type 0} → Outcome A → Type 0
-    Left o = (live_count o.heap ≤ most) × (o.heap.words ≡ h.words) × AreSmall k o.heap.blocks
-
     -- where the longest request gets four units, so does this one
     gets_four : (len : ℕ) → len ≤ longest → units_for u longest ≤ 4 → units_for u len ≡ 4
     gets_four len short four = omega (arith, four, units_rise u len longest unit short, least_units u len)
@@ -71,19 +65,13 @@ module _ (sli u : ℕ) (level : IsLevel sli) (unit : IsUnit u) (most longest : �
     on_allocate len short few =
         let n : ℕ = units_for u len in
         let enough : n + 3 ≤ k = omega (arith, units_rise u len longest unit short) in
-        let left : Left (requested sli u h len) = by_allocated_words sli Left h n (lacking n) (λ why. (is.few, refl, is.small)) (λ s site fit.
-        let a = around_site (IsSmall k) h s site is.small in (
-          omega (arith, few, load_given_words sli one h s n (lacking n) site fit, counted h.blocks, counted (gives_words h n (lacking n) s).heap.blocks),
-          refl,
-          all_append (IsSmall k) (s.before ++ carved (size_of s.block) n h.tick (lacking n)) s.after
-              (all_append (IsSmall k) s.before (carved (size_of s.block) n h.tick (lacking n)) a.0 (small_carved k (size_of s.block) n h.tick (lacking n) enough)) a.2,
-        )) in
         record {
           lawful = lawful_allocated_words sli level h n (lacking n) (lacks_few n (least_units u len)) is.lawful;
-          words = omega (arith, is.words, left.1);
+          words = omega (arith, is.words, by_allocated_words sli (λ o. o.heap.words ≡ h.words) h n (lacking n) (λ why. refl) (λ s site fit. refl));
           class = is.class;
-          few = left.0;
-          small = left.2;
+          few = by_allocated_words sli (λ o. live_count o.heap ≤ most) h n (lacking n) (λ why. is.few)
+              (λ s site fit. omega (arith, few, load_given sli one h s n (lacking n) site fit, counted h.blocks, counted (gives_words h n (lacking n) s).heap.blocks));
+          small = all_allocated (IsSmall k) (free_small k) sli 0 h n (lacking n) (λ b fit. omega arith) (omega arith) (small_suits k 0 n (lacking n) enough) is.small;
           fours = λ four. subst (λ (j : ℕ). HasFixedSize 4 (allocated_words sli h j (lacking n)).heap) (sym (gets_four len short four)) ((fixed_kept sli level 4 h (is.fours four)).allocate (lacking n));
         }
 
@@ -103,18 +91,13 @@ module _ (sli u : ℕ) (level : IsLevel sli) (unit : IsUnit u) (most longest : �
     on_resize name len short =
         let n : ℕ = units_for u len in
         let enough : n + 3 ≤ k = omega (arith, units_rise u len longest unit short) in
-        let left : Left (resized_words h name n (lacking n)) = by_resized_words Left h name n (lacking n) (λ why. (is.few, refl, is.small)) (λ s own site has room.
-        let a = around_site (IsSmall k) h s site is.small in (
-          omega (arith, is.few, load_resized_words one h s name.at name.serial n (lacking n) site has, counted h.blocks, counted (resizes h n (lacking n) s).heap.blocks),
-          refl,
-          all_append (IsSmall k) s.before _ a.0 (small_refitted k h.tick n (lacking n) name.serial s.block s.after enough (and_left _ _ has) a.2),
-        )) in
         record {
           lawful = lawful_resized_words h name n (lacking n) (lacks_few n (least_units u len)) is.lawful;
-          words = omega (arith, is.words, left.1);
+          words = omega (arith, is.words, by_resized_words (λ o. o.heap.words ≡ h.words) h name n (lacking n) (λ why. refl) (λ s own site has room. refl));
           class = is.class;
-          few = left.0;
-          small = left.2;
+          few = by_resized_words (λ o. live_count o.heap ≤ most) h name n (lacking n) (λ why. is.few)
+              (λ s own site has room. omega (arith, is.few, load_resized one h s name.at name.serial n (lacking n) site has, counted h.blocks, counted (resizes h n (lacking n) s).heap.blocks));
+          small = all_resized (IsSmall k) (free_small k) h name n (lacking n) (small_suits k n n (lacking n) enough) is.small;
           fours = λ four. subst (λ (j : ℕ). HasFixedSize 4 (resized_words h name j (lacking n)).heap) (sym (gets_four len short four)) ((fixed_kept sli level 4 h (is.fours four)).resize name (lacking n));
         }
 

@@ -9,17 +9,14 @@ use Rattle.atomic_table.proofs.Lists.{at_set, set_here, set_else, set_again, at_
 use Rattle.tlsf_pool_arena.specs.declared.returns.role.Role.{Role}
 use Rattle.tlsf_pool_arena.specs.declared.returns.role.Role.TheVariants.{Owns, Sends, Takes, Away, Puts, Gave}
 use Rattle.tlsf_pool_arena.specs.returns.Slots.{Spot, idle, away, moving, home, taken, word_of, home_of, value_at, OwnerFits, Fits, Kept, first_role}
+use Rattle.std.proofs.lemmas.List.{map-set, set-get_or, length-map}
+use Rattle.std.proofs.lemmas.Option.{get_or_from_slice_get, slice_get_within}
 
 -- ---- lists
 
-map_set : {A B : Type 0} (f : A → B) (l : List A) (i : ℕ) (a : A) → map f (set l i a) ≡ set (map f l) i (f a)
-map_set f [] i a = refl
-map_set f (x ∷ l) zero a = refl
-map_set f (x ∷ l) (suc i) a = ap (λ (l : List _). f x ∷ l) (map_set f l i a)
-
 -- an entry that looks the same changes no list of looks
 map_same : {A B : Type 0} (f : A → B) (l : List A) (i : ℕ) (a b : A) → get_elem? l i ≡ some b → f b ≡ f a → map f (set l i a) ≡ map f l
-map_same f l i a b at same = map_set f l i a ∙ set_again (map f l) i (f a) (at_map f l i b at ∙ ap some same)
+map_same f l i a b at same = map-set f l i a ∙ set_again (map f l) i (f a) (at_map f l i b at ∙ ap some same)
 
 -- what the std's index finds
 got : {A : Type 0} (l : List A) (i : ℕ) (a : A) → slice_get l i ≡ Some a → get_elem? l i ≡ some a
@@ -38,14 +35,7 @@ there (x ∷ l) zero h = (x, refl)
 there (x ∷ l) (suc i) h = there l i (omega arith)
 
 index_is : (l : List ℕ) (i n : ℕ) → get_elem? l i ≡ some n → get_or l i 0 ≡ n
-index_is [] i n e = absurd (some-ne-none n (sym e))
-index_is (x ∷ l) zero n e = some-injective x n e
-index_is (x ∷ l) (suc i) n e = index_is l i n e
-
-index_set : (l : List ℕ) (i : ℕ) → set l i (get_or l i 0) ≡ l
-index_set [] i = refl
-index_set (x ∷ l) zero = refl
-index_set (x ∷ l) (suc i) = ap (λ (l : List ℕ). x ∷ l) (index_set l i)
+index_is l i n e = get_or_from_slice_get l i n 0 (gets l i n e)
 
 -- what stands at an entry of a list of looks
 looked_at : {A B : Type 0} (f : A → B) (l : List A) (i : ℕ) (b : B) → get_elem? (map f l) i ≡ some b → (a : A) × (get_elem? l i ≡ some a) × (f a ≡ b)
@@ -64,14 +54,8 @@ map_all : {A B : Type 0} (f : A → B) (n : ℕ) (a : A) → map f (replicate n 
 map_all f zero a = refl
 map_all f (suc n) a = ap (λ (l : List _). f a ∷ l) (map_all f n a)
 
-map_long : {A B : Type 0} (f : A → B) (l : List A) → length (map f l) ≡ length l
-map_long f [] = refl
-map_long f (x ∷ l) = ap suc (map_long f l)
-
 inside : {A : Type 0} (l : List A) (i : ℕ) (a : A) → get_elem? l i ≡ some a → i < length l
-inside [] i a e = absurd (some-ne-none a (sym e))
-inside (x ∷ l) zero a e = omega arith
-inside (x ∷ l) (suc i) a e = let h = inside l i a e in omega (arith, h)
+inside l i a e = slice_get_within l i a (gets l i a e)
 
 abbrev Spots : Type 0 → Type 0
 Spots T = List (Spot T)
@@ -131,13 +115,13 @@ module _ {T : Type 0} where
 
   -- the word as it was found, where the slot looks the same
   word_stays : (s : State (Option T) (Role T)) (r : Kept s) (k : ℕ) (old new : Spot T) → get_elem? r.spots k ≡ some old → word_of old ≡ word_of new → set s.words k (get_or s.words k 0) ≡ map word_of (set r.spots k new)
-  word_stays s r k old new here same = index_set s.words k ∙ r.words ∙ sym (map_same word_of r.spots k new old here same)
+  word_stays s r k old new here same = set-get_or s.words k 0 ∙ r.words ∙ sym (map_same word_of r.spots k new old here same)
 
   word_set : (s : State (Option T) (Role T)) (r : Kept s) (k : ℕ) (new : Spot T) → set s.words k (word_of new) ≡ map word_of (set r.spots k new)
-  word_set s r k new = ap (λ (l : List ℕ). set l k (word_of new)) r.words ∙ sym (map_set word_of r.spots k new)
+  word_set s r k new = ap (λ (l : List ℕ). set l k (word_of new)) r.words ∙ sym (map-set word_of r.spots k new)
 
   home_set : (s : State (Option T) (Role T)) (r : Kept s) (k : ℕ) (new : Spot T) → set s.homes k (home_of new) ≡ map home_of (set r.spots k new)
-  home_set s r k new = ap (λ (l : List (maybe.Option (Option T))). set l k (home_of new)) r.homes ∙ sym (map_set home_of r.spots k new)
+  home_set s r k new = ap (λ (l : List (maybe.Option (Option T))). set l k (home_of new)) r.homes ∙ sym (map-set home_of r.spots k new)
 
   home_stays : (s : State (Option T) (Role T)) (r : Kept s) (k : ℕ) (old new : Spot T) → get_elem? r.spots k ≡ some old → home_of old ≡ home_of new → s.homes ≡ map home_of (set r.spots k new)
   home_stays s r k old new here same = r.homes ∙ sym (map_same home_of r.spots k new old here same)
@@ -224,8 +208,7 @@ module _ {T : Type 0} where
   pub sends : (id at : ℕ) (out : List (Option T)) (looks : List (ℕ × Bool)) (x : T) → Splits Kept id (Sends out looks at x) (sent_out (Sends out looks at x)) (ticket_of (Sends out looks at x))
   sends id at out looks x = λ s r seen.
       let f : OwnerFits r.spots r.owner id out (λ k. ⊥) × (get_elem? r.spots at ≡ some idle) = r.fits id (Sends out looks at x) seen in
-      let number : ℕ = length s.views in
-      let new : Spot T = away number x in
+      let new : Spot T = away (length s.views) x in
       let left : Role T = Owns (set out at (Some x)) looks in
       let t : Steps s r at id idle new left = record {
         here = f.1;
@@ -233,7 +216,7 @@ module _ {T : Type 0} where
         same = λ j ne own. absurd (ne (own ∙ sym f.0.owns));
         mine = record {
           owns = f.0.owns;
-          out_is = ap (λ (l : List (Option T)). set l at (Some x)) f.0.out_is ∙ sym (map_set value_at r.spots at new);
+          out_is = ap (λ (l : List (Option T)). set l at (Some x)) f.0.out_is ∙ sym (map-set value_at r.spots at new);
           in_hand = λ j y e. ⊎_elim (λ h. let no : ⊥ = cc in no) (λ h. f.0.in_hand j y h.1) (at_set r.spots at j new (taken y) e);
         };
       } in
@@ -251,10 +234,9 @@ module _ {T : Type 0} where
   pub looks : (n id at : ℕ) (out : List (Option T)) (seen_before : List (ℕ × Bool)) → at < n
       → Allows Kept n id (Owns out seen_before, []) at (λ m. m) (looked (step n at 0 0 none) (Owns out seen_before, []))
   looks n id at out before small_at = λ s r long seen small.
-      let f : OwnerFits r.spots r.owner id out (λ k. ⊥) = r.fits id (Owns out before) seen in
-      let many : length s.homes ≡ length r.spots = ap (λ (l : List (maybe.Option (Option T))). length l) r.homes ∙ map_long home_of r.spots in
+      let many : length s.homes ≡ length r.spots = ap (λ (l : List (maybe.Option (Option T))). length l) r.homes ∙ length-map r.spots home_of in
       let a = there r.spots at (omega (arith, small_at, long, many)) in
-      by_spot s r f seen a.0 a.1
+      by_spot s r (r.fits id (Owns out before) seen) seen a.0 a.1
     where
       now : Bool → List (ℕ × Bool)
       now seen = before ++ (at, seen) ∷ []
@@ -271,7 +253,7 @@ module _ {T : Type 0} where
             Owns out (now false),
             keeps,
             tt,
-            record { spots = r.spots; owner = r.owner; words = index_set s.words at ∙ r.words; homes = r.homes; fits = fits },
+            record { spots = r.spots; owner = r.owner; words = set-get_or s.words at 0 ∙ r.words; homes = r.homes; fits = fits },
             ((λ e. absurd (let z = word_here s r at a here in omega (arith, z, e, zero_word))), (λ ne. refl)),
           )
 
@@ -315,7 +297,7 @@ module _ {T : Type 0} where
         same = λ j ne own. absurd (ne (own ∙ sym f.0.owns));
         mine = record {
           owns = f.0.owns;
-          out_is = ap (λ (l : List (Option T)). set l at None) f.0.out_is ∙ sym (map_set value_at r.spots at idle);
+          out_is = ap (λ (l : List (Option T)). set l at None) f.0.out_is ∙ sym (map-set value_at r.spots at idle);
           in_hand = λ j y e. ⊎_elim (λ h. let no : ⊥ = cc in no) (λ h. h.0 (f.0.in_hand j y h.1)) (at_set r.spots at j idle (taken y) e);
         };
       } in (

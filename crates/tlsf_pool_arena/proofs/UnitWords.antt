@@ -1,11 +1,8 @@
 -- Units, and the words that requests for them want.
-use Rattle.tlsf_pool_arena.proofs.Common.{◌≡◌, ℕ, ◌-◌, ◌*◌, ◌≤◌, arith, want, IsUnit, lacking, units_for}
+use Rattle.tlsf_pool_arena.proofs.Common.{◌≡◌, ℕ, ◌*◌, ◌≤◌, arith, want, IsUnit, lacking, units_for}
 use Rattle.tlsf_arena.proofs.UnitCases.{by_unit}
 use Rattle.tlsf_pool_arena.specs.MixedUnits.{length_for}
-
--- a payload of this many bytes wants k words
-wants : (k : ℕ) → 4 ≤ k → want (8 * (k - 3)) ≡ k
-wants k least = omega (arith, least)
+use Rattle.tlsf_pool.proofs.lemmas.laws.TightRuns.{wants}
 
 pub least_units : (u n : ℕ) → 4 ≤ units_for u n
 least_units u n = omega arith

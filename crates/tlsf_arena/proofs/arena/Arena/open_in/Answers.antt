@@ -1,4 +1,4 @@
-use Rattle.tlsf_arena.proofs.Common.{◌≡◌, ℕ, List, ◌*◌, ◌/◌, true, replicate, sym, ap, subst, ◌∙◌, arith, AllByRecursion, HeapState, HasRoom, Loan, IsBook}
+use Rattle.tlsf_arena.proofs.Common.{◌≡◌, List, ◌*◌, ◌/◌, sym, ap, subst, ◌∙◌, arith, AllByRecursion, HeapState, HasRoom, Loan, IsBook}
 use Rattle.tlsf_arena.proofs.Books.{no_loans}
 use Rattle.tlsf_arena.proofs.Mapped.{few_units, opens}
 use Rattle.tlsf_arena.proofs.UnitCases.{grains_of}
@@ -11,12 +11,10 @@ invariant_of-result g c =
     let is : c.in-Ok-new.heap.value.heap ≡ c.in-Ok.heap.heap = ap (λ s. s.heap) c.in-Ok-new.ensures.ok in
     let rooms = subst (λ (h : HeapState). AllByRecursion HasRoom h.blocks) opened.heap opened.lawful.rooms in
     let most = few_units g.row.SLI c.args.units (λ no. let e = opened.bad_size.1 no in cc) in
-    let same = c.with_ptr-base.ensures.1 in
-    let space = c.new-space.ensures in
+    let space = c.new-base.ensures in
     let long : c.args.memory.size / 16 ≡ u / 16 * c.args.units = omega (arith, c.requires.size, grains_of u c.args.units c.requires.kind.1) in (
-      opens g.row.SLI u c.args.units c.args.id c.args.memory.size c.in-Ok-new.heap.value.heap c.new-space.result.free c.requires.kind.0 c.requires.kind.1 rooms.0 most (is ∙ opened.heap) long
-          (space.2 ∙ ap (λ (m : ℕ). replicate (m / 16) true) (ap (λ m. m.size) same)),
-      (space.1 ∙ ap (λ m. m.ptr) same ∙ sym c.with_ptr-base.ensures.0, tt),
+      opens g.row.SLI u c.args.units c.args.id c.args.memory.size c.in-Ok-new.heap.value.heap c.new-base.result.1.free c.requires.kind.0 c.requires.kind.1 rooms.0 most (is ∙ opened.heap) long space.3,
+      (space.2 ∙ sym space.0, tt),
       sym (ap (λ (h : HeapState). h.id) (is ∙ opened.heap)),
       subst (λ (l : List Loan). IsBook l c.in-Ok-new.heap.value.heap) (sym c.new-2.ensures) (no_loans c.in-Ok-new.heap.value.heap),
     )

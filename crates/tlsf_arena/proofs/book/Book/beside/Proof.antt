@@ -3,36 +3,33 @@ use Rattle.tlsf_arena.proofs.Walking.{◌≡◌, true, List, [], ◌∷◌, ◌+
 use Rattle.tlsf_arena.proofs.Rights.{is_among}
 use Rattle.tlsf_arena.specs.contracts.right.Right as right_type
 use Rattle.tlsf_arena.specs.contracts.book.Book as book
-use Rattle.tlsf_arena.specs.contracts.book.Book.beside.{ended, clauses}
+use Rattle.tlsf_arena.specs.contracts.book.Book.beside.{ended as En₀, clauses}
 use Rattle.tlsf_arena.specs.contracts.book.Book.beside.Key.{name as #self}
 use Rattle.tlsf_arena.proofs.book.Book.beside.Statement.{statement}
 use Rattle.tlsf_arena.proofs.book.Book.beside.Code as compiled
 
 pub beside_spec : {M : Type 1} → statement M
 beside_spec 𝓤 𝓛 𝓜 𝓡 wired =
-    let H = 𝓛.H in
-    let En₀ = ended in
     let c = clauses 𝓛 𝓜.mem 𝓡.returns in
     let fn : Fn = compiled.function in
     let stays : Stays En₀.signature.params En₀.kept = (stay_dropped (slot_at 0 En₀.signature.params) En₀.kept.0, (stay_dropped (slot_at 1 En₀.signature.params) En₀.kept.1.0, tt)) in
-    let 𝓣 = tables 𝓤 H 𝓜 𝓡 𝓡.env in
-    proved_at 𝓛 En₀ stays c 𝓜 𝓡 (Goes-blank 𝓛 0 (slot_at 0 En₀.signature.params) En₀.kept.0 (λ κs x f. tt), (Goes-blank 𝓛 0 (slot_at 1 En₀.signature.params) En₀.kept.1.0 (λ κs x f. tt), tt)) #self fn (compiled.unfolded 𝓤 H 𝓜 𝓡 wired) (λ z are.
+    let 𝓣 = tables 𝓤 𝓛.H 𝓜 𝓡 𝓡.env in
+    proved_at 𝓛 En₀ stays c 𝓜 𝓡 (Goes-blank 𝓛 0 (slot_at 0 En₀.signature.params) En₀.kept.0 (λ κs x f. tt), (Goes-blank 𝓛 0 (slot_at 1 En₀.signature.params) En₀.kept.1.0 (λ κs x f. tt), tt)) #self fn (compiled.unfolded 𝓤 𝓛.H 𝓜 𝓡 wired) (λ z are.
     let Post : Val → SProp 𝓤 = (walk_of 𝓛 En₀ stays c).post z in
     let a = z.0.3 in
     let vss = z.0.4 in
-    let Owned = raw (alive 𝓛 En₀.signature z.0.0 z.0.1) ⊛ ‵ (owns (types_at En₀.signature.params z.0.0) a vss) in
     let x = a.0 in
     let w = a.1.0 in
     let γ : GName = x.name in
     let t : Loan = w.loan in
     let Asked : Type 0 = w.book ≡ γ in
     let Lent : Type 0 = is_out x.out t ≡ true in
-    qed 𝓛 (Owned ∷ raw (fact 𝓤 Asked) ∷ []) ∵ move ! (1 ∷ []) $ heard ! Asked (λ asked. split ! $ move ! (1 ∷ []) $
+    qed 𝓛 ((raw (alive 𝓛 En₀.signature z.0.0 z.0.1) ⊛ ‵ (owns (types_at En₀.signature.params z.0.0) a vss)) ∷ raw (fact 𝓤 Asked) ∷ []) ∵ move ! (1 ∷ []) $ heard ! Asked (λ asked. split ! $ move ! (1 ∷ []) $
     fsplit3 ! $ fsplit ! $ drop ! $ move ! (2 ∷ []) $ drop ! $ move ! (1 ∷ []) $ fsplit ! $ drop ! $
     rewrite ! 0 (λ (g : GName). ‵ (right g t)) asked refl $
     use2 𝓛 (given Lent (‵ (right γ t) ⊛ ‵ (rest_of γ x.out))) (is_among 𝓛 γ x.out t) $ learn ! (λ lent. split ! $
     rewrite ! 0 (λ (g : GName). ‵ (right g t)) (sym asked) refl $
-    regoal ! (λ (us : List Val). prop (WpFn 𝓤 H 𝓣.C 𝓣.Λ fn us Post)) (λ i. (lease_told vss.0 are.0.0).0 i ++ ((lease_told vss.1.0 are.1.0.0).0 i ++ [])) refl $
+    regoal ! (λ (us : List Val). prop (WpFn 𝓤 𝓛.H 𝓣.C 𝓣.Λ fn us Post)) (λ i. (lease_told vss.0 are.0.0).0 i ++ ((lease_told vss.1.0 are.1.0.0).0 i ++ [])) refl $
     enter ! 𝓣.C 𝓣.Λ fn (lease_val ∷ lease_val ∷ []) Post $
     alloc_all ! (λ l. pass_all ! refl ((tt, (tt, tt)), ((tt, (tt, tt)), tt)) $ let En : Env 𝓤 𝓛.H = env fn.locals l in
     sets ! (of_opd ! (get_in ! (fld ! refl (stop !)) (sub ! 0 refl (whole !)))) refl (tt, tt) $

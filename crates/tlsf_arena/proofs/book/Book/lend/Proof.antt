@@ -3,24 +3,20 @@ use Rattle.tlsf_arena.proofs.Walking.{◌≡◌, false, List, [], ◌∷◌, ◌
 use Rattle.tlsf_arena.proofs.Rights.{goes_out}
 use Rattle.tlsf_arena.specs.contracts.right.Right as right_type
 use Rattle.tlsf_arena.specs.contracts.book.Book as book
-use Rattle.tlsf_arena.specs.contracts.book.Book.lend.{ended, clauses}
+use Rattle.tlsf_arena.specs.contracts.book.Book.lend.{ended as En₀, clauses}
 use Rattle.tlsf_arena.specs.contracts.book.Book.lend.Key.{name as #self}
 use Rattle.tlsf_arena.proofs.book.Book.lend.Statement.{statement}
 use Rattle.tlsf_arena.proofs.book.Book.lend.Code as compiled
 
 pub lend_spec : {M : Type 1} → statement M
 lend_spec 𝓤 𝓛 𝓜 𝓡 wired =
-    let H = 𝓛.H in
-    let En₀ = ended in
     let c = clauses 𝓛 𝓜.mem 𝓡.returns in
     let fn : Fn = compiled.function in
     let stays : Stays En₀.signature.params En₀.kept = (stay_dropped (slot_at 0 En₀.signature.params) En₀.kept.0, (stay_dropped (slot_at 1 En₀.signature.params) En₀.kept.1.0, (stay_dropped (slot_at 2 En₀.signature.params) En₀.kept.1.1.0, (stay_dropped (slot_at 3 En₀.signature.params) En₀.kept.1.1.1.0, (stay_dropped (slot_at 4 En₀.signature.params) En₀.kept.1.1.1.1.0, tt))))) in
-    let 𝓣 = tables 𝓤 H 𝓜 𝓡 𝓡.env in
-    proved_at 𝓛 En₀ stays c 𝓜 𝓡 (Goes-blank 𝓛 0 (slot_at 0 En₀.signature.params) En₀.kept.0 (λ κs x f. tt), (Goes-dropped 𝓛 0 (slot_at 1 En₀.signature.params) En₀.kept.1.0 (λ κs x f. refl), (Goes-dropped 𝓛 0 (slot_at 2 En₀.signature.params) En₀.kept.1.1.0 (λ κs x f. refl), (Goes-dropped 𝓛 0 (slot_at 3 En₀.signature.params) En₀.kept.1.1.1.0 (λ κs x f. refl), (Goes-dropped 𝓛 0 (slot_at 4 En₀.signature.params) En₀.kept.1.1.1.1.0 (λ κs x f. refl), tt))))) #self fn (compiled.unfolded 𝓤 H 𝓜 𝓡 wired) (λ z are.
+    let 𝓣 = tables 𝓤 𝓛.H 𝓜 𝓡 𝓡.env in
+    proved_at 𝓛 En₀ stays c 𝓜 𝓡 (Goes-blank 𝓛 0 (slot_at 0 En₀.signature.params) En₀.kept.0 (λ κs x f. tt), (Goes-dropped 𝓛 0 (slot_at 1 En₀.signature.params) En₀.kept.1.0 (λ κs x f. refl), (Goes-dropped 𝓛 0 (slot_at 2 En₀.signature.params) En₀.kept.1.1.0 (λ κs x f. refl), (Goes-dropped 𝓛 0 (slot_at 3 En₀.signature.params) En₀.kept.1.1.1.0 (λ κs x f. refl), (Goes-dropped 𝓛 0 (slot_at 4 En₀.signature.params) En₀.kept.1.1.1.1.0 (λ κs x f. refl), tt))))) #self fn (compiled.unfolded 𝓤 𝓛.H 𝓜 𝓡 wired) (λ z are.
     let Post : Val → SProp 𝓤 = (walk_of 𝓛 En₀ stays c).post z in
     let a = z.0.3 in
-    let vss = z.0.4 in
-    let Owned = raw (alive 𝓛 En₀.signature z.0.0 z.0.1) ⊛ ‵ (owns (types_at En₀.signature.params z.0.0) a vss) in
     let x = a.0 in
     let γ : GName = x.name in
     let heap = a.1.0 in
@@ -30,10 +26,10 @@ lend_spec 𝓤 𝓛 𝓜 𝓡 wired =
     let t : Loan = (heap, (at, (serial, units))) in
     let lent : List Loan = t ∷ x.out in
     let Asked : Type 0 = is_out x.out t ≡ false in
-    qed 𝓛 (Owned ∷ raw (fact 𝓤 Asked) ∷ []) ∵ move ! (1 ∷ []) $ heard ! Asked (λ fresh. split ! $ move ! (1 ∷ []) $
+    qed 𝓛 ((raw (alive 𝓛 En₀.signature z.0.0 z.0.1) ⊛ ‵ (owns (types_at En₀.signature.params z.0.0) a z.0.4)) ∷ raw (fact 𝓤 Asked) ∷ []) ∵ move ! (1 ∷ []) $ heard ! Asked (λ fresh. split ! $ move ! (1 ∷ []) $
     fsplit ! $ fsplit ! $ drop ! $ move ! (1 ∷ []) $ drop ! $
     use1 𝓛 (‵ (right γ t) ⊛ ‵ (rest_of γ lent)) (goes_out 𝓛 γ x.out t fresh) $ split ! $
-    regoal ! (λ (us : List Val). prop (WpFn 𝓤 H 𝓣.C 𝓣.Λ fn us Post)) (λ i. (lease_told vss.0 are.0.0).0 i ++ (are.1.0.0 i ++ (are.1.1.0.0 i ++ (are.1.1.1.0.0 i ++ (are.1.1.1.1.0.0 i ++ []))))) refl $
+    regoal ! (λ (us : List Val). prop (WpFn 𝓤 𝓛.H 𝓣.C 𝓣.Λ fn us Post)) (λ i. (lease_told z.0.4.0 are.0.0).0 i ++ (are.1.0.0 i ++ (are.1.1.0.0 i ++ (are.1.1.1.0.0 i ++ (are.1.1.1.1.0.0 i ++ []))))) refl $
     enter ! 𝓣.C 𝓣.Λ fn (lease_val ∷ vint w32 heap ∷ vint w32 at ∷ vint w64 serial ∷ vint w32 units ∷ []) Post $
     alloc_all ! (λ l. pass_all ! refl ((tt, (tt, tt)), ((tt, record { fits = are.1.0.1 }), ((tt, record { fits = are.1.1.0.1 }), ((tt, record { fits = are.1.1.1.0.1 }), ((tt, record { fits = are.1.1.1.1.0.1 }), tt))))) $ let En : Env 𝓤 𝓛.H = env fn.locals l in
     sets ! (of_opd ! (get_in ! (fld ! refl (stop !)) (sub ! 0 refl (whole !)))) refl (tt, tt) $

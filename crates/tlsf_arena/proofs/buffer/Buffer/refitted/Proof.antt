@@ -1,5 +1,5 @@
 -- `refitted` takes the same block for one of another number of values. Assumes `Logic`.
-use Rattle.tlsf_arena.proofs.Walking.{◌≡◌, ℕ, ◌+◌, ◌-◌, ◌*◌, ◌≤◌, List, [], ◌∷◌, ◌++◌, refl, sym, ap, subst, ◌∙◌, w64, Goes-blank, proved_at, leaves, block_with_items, El, IsUnit, piece_size, IsPiece, behind, Ty, Fn, Args, a_type, Val, vint, inst_fn, SProp, emp, Lft, Share, ftrue, fex, froom, flft, size, Env, WpFn, ◌⊑◌, fact, fact_i, tables, ‵, raw, ◌⊛◌, prop, ◌$◌, ◌∵◌, !, qed, by, move, drop, use0, use2, split, split3, join, rewrite, regoal, fsplit, fsplit3, fjoin, fjoin3, fpick, fpack, whole, sub, agg, stop, fld, of_opd, no_more, and_then, returns, enter, alloc_all, pass_all, free_all, look_at, get, get_in, sets, env, RattleType, owns, Ptr, block_ptr, param, layout, layouts, types_at, nothing, heard, Stays, stay_dropped, walk_of, Goes-dropped, slot_at, Region}
+use Rattle.tlsf_arena.proofs.Walking.{◌≡◌, ℕ, ◌+◌, ◌-◌, ◌*◌, ◌≤◌, List, [], ◌∷◌, ◌++◌, refl, sym, ap, subst, ◌∙◌, w64, Goes-blank, proved_at, leaves, block_with_items, El, IsUnit, piece_size, IsPiece, behind, Fn, Args, a_type, Val, vint, inst_fn, SProp, emp, Lft, Share, ftrue, fex, froom, flft, size, Env, WpFn, ◌⊑◌, fact, fact_i, tables, ‵, raw, ◌⊛◌, prop, ◌$◌, ◌∵◌, !, qed, by, move, drop, use0, use2, split, split3, join, rewrite, regoal, fsplit, fsplit3, fjoin, fjoin3, fpick, fpack, whole, sub, agg, stop, fld, of_opd, no_more, and_then, returns, enter, alloc_all, pass_all, free_all, look_at, get, get_in, sets, env, RattleType, owns, Ptr, block_ptr, param, layout, layouts, types_at, nothing, heard, Stays, stay_dropped, walk_of, Goes-dropped, slot_at, Region}
 use Rattle.tlsf_arena.proofs.UnitCases.{piece_holds}
 use Rattle.tlsf_arena.proofs.Buffers.{buffer_val, buffer_own, buffer_told, buffer_made, refits, block_type, block_size}
 use Rattle.tlsf_arena.specs.contracts.buffer.Buffer as buffer
@@ -10,14 +10,13 @@ use Rattle.tlsf_arena.proofs.buffer.Buffer.refitted.Code as compiled
 
 pub refitted_spec : {M : Type 1} → statement M
 refitted_spec 𝓤 𝓛 𝓜 𝓡 wired T L =
-    let H = 𝓛.H in
     let En₀ = ended T in
     let c = clauses T 𝓛 𝓜.mem 𝓡.returns in
     let args : Args = layouts (a_type ∷ []) (T, tt) in
     let fn : Fn = inst_fn args compiled.function in
     let stays : Stays En₀.signature.params En₀.kept = (stay_dropped (slot_at 0 En₀.signature.params) En₀.kept.0, (stay_dropped (slot_at 1 En₀.signature.params) En₀.kept.1.0, tt)) in
-    let 𝓣 = tables 𝓤 H 𝓜 𝓡 𝓡.env in
-    proved_at 𝓛 En₀ stays c 𝓜 𝓡 (Goes-blank 𝓛 1 (slot_at 0 En₀.signature.params) En₀.kept.0 (λ κs x f. tt), (Goes-dropped 𝓛 1 (slot_at 1 En₀.signature.params) En₀.kept.1.0 (λ κs x f. refl), tt)) (#self args) fn (compiled.unfolded 𝓤 H 𝓜 𝓡 wired (T, tt)) (λ z are.
+    let 𝓣 = tables 𝓤 𝓛.H 𝓜 𝓡 𝓡.env in
+    proved_at 𝓛 En₀ stays c 𝓜 𝓡 (Goes-blank 𝓛 1 (slot_at 0 En₀.signature.params) En₀.kept.0 (λ κs x f. tt), (Goes-dropped 𝓛 1 (slot_at 1 En₀.signature.params) En₀.kept.1.0 (λ κs x f. refl), tt)) (#self args) fn (compiled.unfolded 𝓤 𝓛.H 𝓜 𝓡 wired (T, tt)) (λ z are.
     let Post : Val → SProp 𝓤 = (walk_of 𝓛 En₀ stays c).post z in
     let a = z.0.3 in
     let vss = z.0.4 in
@@ -25,8 +24,7 @@ refitted_spec 𝓤 𝓛 𝓜 𝓡 wired T L =
     let q : Share = z.0.1.0 in
     let R : RattleType = param 0 T in
     let E : El = record { row = T; laws = L } in
-    let τ : Ty = layout T in
-    let s = size τ in
+    let s = size (layout T) in
     let x = a.0 in
     let u = x.unit in
     let r : Region = x.region in
@@ -48,7 +46,7 @@ refitted_spec 𝓤 𝓛 𝓜 𝓡 wired T L =
     move ! (3 ∷ []) $ drop ! $ move ! (1 ∷ 2 ∷ []) $
     use2 𝓛 (‵ (froom (block_type E (cap' - len)) b (at + len * s)) ⊛ ‵ (behind (block_type E cap') b at n')) (refits E 𝓛 len cap cap' b at counts.1 counts.0 n n' (piece_holds u (size (block_type E cap)) unit) (piece_holds u (size (block_type E cap')) unit) both) $ split ! $ move ! (1 ∷ []) $
     fpack ! (IsPiece r p at n') (λ _. behind (block_type E cap') b at n') is' $ fpack ! ℕ (λ j. fex (IsPiece r p j n') (λ _. behind (block_type E cap') b j n')) at $ move ! (2 ∷ 1 ∷ 0 ∷ []) $ fjoin3 ! $
-    regoal ! (λ (us : List Val). prop (WpFn 𝓤 H 𝓣.C 𝓣.Λ fn us Post)) (λ i. told i ++ (are.1.0.0 i ++ [])) refl $
+    regoal ! (λ (us : List Val). prop (WpFn 𝓤 𝓛.H 𝓣.C 𝓣.Λ fn us Post)) (λ i. told i ++ (are.1.0.0 i ++ [])) refl $
     enter ! 𝓣.C 𝓣.Λ fn (buffer_val p ∷ vint w64 cap' ∷ []) Post $
     alloc_all ! (λ l. pass_all ! refl ((tt, (tt, (tt, tt))), ((tt, record { fits = are.1.0.1 }), tt)) $ let En : Env 𝓤 𝓛.H = env fn.locals l in
     sets ! (of_opd ! (get_in ! (fld ! refl (stop !)) (sub ! 0 refl (whole !)))) refl (tt, tt) $

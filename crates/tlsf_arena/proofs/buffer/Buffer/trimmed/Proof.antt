@@ -1,5 +1,5 @@
 -- `trimmed` makes a piece of the bytes at the end of a buffer's. Assumes `Logic`.
-use Rattle.tlsf_arena.proofs.Walking.{◌≡◌, ℕ, ◌+◌, ◌-◌, ◌*◌, ◌%◌, ◌^◌, ◌<◌, ◌≤◌, List, [], ◌∷◌, ◌++◌, refl, sym, ap, ◌∙◌, arith, w64, Goes-blank, after, pair_of, pair_val, proved_at, leaves, block_with_items, El, IsUnit, piece_size, IsPiece, behind, Ty, Fn, Args, a_type, Val, vint, vptr, inst_fn, SProp, emp, Lft, Share, ftrue, fex, froom, flft, size, Env, WpFn, ◌⊑◌, fact, fact_i, tables, ‵, raw, ◌⊛◌, prop, at_ret, ◌$◌, ◌∵◌, !, qed, by, move, drop, use0, use2, split, split3, join, rewrite, regoal, fsplit, fsplit3, fjoin, fjoin3, fpick, fpack, whole, sub, agg, stop, fld, bin, of_opd, no_more, and_then, first, blocks, exec, returns, enter, alloc_all, pass_all, free_all, look_at, get, get_in, sets, sets_last, is, env, RattleType, owns, Ptr, block_ptr, count_of, param, layout, layouts, types_at, nothing, heard, Tuple, Stays, stay_dropped, walk_of, Goes-dropped, slot_at, sized_val, sized_own, sized_made, Region, bytes_at}
+use Rattle.tlsf_arena.proofs.Walking.{◌≡◌, ℕ, ◌+◌, ◌-◌, ◌*◌, ◌%◌, ◌^◌, ◌<◌, ◌≤◌, List, [], ◌∷◌, ◌++◌, refl, sym, ap, ◌∙◌, arith, w64, Goes-blank, after, pair_of, pair_val, proved_at, leaves, block_with_items, El, IsUnit, piece_size, IsPiece, behind, Fn, Args, a_type, Val, vint, vptr, inst_fn, SProp, emp, Lft, Share, ftrue, fex, froom, flft, size, Env, WpFn, ◌⊑◌, fact, fact_i, tables, ‵, raw, ◌⊛◌, prop, at_ret, ◌$◌, ◌∵◌, !, qed, by, move, drop, use0, use2, split, split3, join, rewrite, regoal, fsplit, fsplit3, fjoin, fjoin3, fpick, fpack, whole, sub, agg, stop, fld, bin, of_opd, no_more, and_then, first, blocks, exec, returns, enter, alloc_all, pass_all, free_all, look_at, get, get_in, sets, sets_last, is, env, RattleType, owns, Ptr, block_ptr, count_of, param, layout, layouts, types_at, nothing, heard, Tuple, Stays, stay_dropped, walk_of, Goes-dropped, slot_at, sized_val, sized_own, sized_made, Region, bytes_at}
 use Rattle.tlsf_arena.proofs.UnitCases.{least_piece, piece_grains, piece_holds}
 use Rattle.tlsf_arena.proofs.Buffers.{buffer_val, buffer_own, buffer_told, buffer_made, shortens, block_type, block_size}
 use Rattle.tlsf_arena.specs.contracts.piece.Piece as piece
@@ -11,14 +11,13 @@ use Rattle.tlsf_arena.proofs.buffer.Buffer.trimmed.Code as compiled
 
 pub trimmed_spec : {M : Type 1} → statement M
 trimmed_spec 𝓤 𝓛 𝓜 𝓡 wired T L =
-    let H = 𝓛.H in
     let En₀ = ended T in
     let c = clauses T 𝓛 𝓜.mem 𝓡.returns in
     let args : Args = layouts (a_type ∷ []) (T, tt) in
     let fn : Fn = inst_fn args compiled.function in
     let stays : Stays En₀.signature.params En₀.kept = (stay_dropped (slot_at 0 En₀.signature.params) En₀.kept.0, (stay_dropped (slot_at 1 En₀.signature.params) En₀.kept.1.0, (stay_dropped (slot_at 2 En₀.signature.params) En₀.kept.1.1.0, (stay_dropped (slot_at 3 En₀.signature.params) En₀.kept.1.1.1.0, tt)))) in
-    let 𝓣 = tables 𝓤 H 𝓜 𝓡 𝓡.env in
-    proved_at 𝓛 En₀ stays c 𝓜 𝓡 (Goes-blank 𝓛 1 (slot_at 0 En₀.signature.params) En₀.kept.0 (λ κs x f. tt), (Goes-dropped 𝓛 1 (slot_at 1 En₀.signature.params) En₀.kept.1.0 (λ κs x f. refl), (Goes-dropped 𝓛 1 (slot_at 2 En₀.signature.params) En₀.kept.1.1.0 (λ κs x f. refl), (Goes-dropped 𝓛 1 (slot_at 3 En₀.signature.params) En₀.kept.1.1.1.0 (λ κs x f. refl), tt)))) (#self args) fn (compiled.unfolded 𝓤 H 𝓜 𝓡 wired (T, tt)) (λ z are.
+    let 𝓣 = tables 𝓤 𝓛.H 𝓜 𝓡 𝓡.env in
+    proved_at 𝓛 En₀ stays c 𝓜 𝓡 (Goes-blank 𝓛 1 (slot_at 0 En₀.signature.params) En₀.kept.0 (λ κs x f. tt), (Goes-dropped 𝓛 1 (slot_at 1 En₀.signature.params) En₀.kept.1.0 (λ κs x f. refl), (Goes-dropped 𝓛 1 (slot_at 2 En₀.signature.params) En₀.kept.1.1.0 (λ κs x f. refl), (Goes-dropped 𝓛 1 (slot_at 3 En₀.signature.params) En₀.kept.1.1.1.0 (λ κs x f. refl), tt)))) (#self args) fn (compiled.unfolded 𝓤 𝓛.H 𝓜 𝓡 wired (T, tt)) (λ z are.
     let Post : Val → SProp 𝓤 = (walk_of 𝓛 En₀ stays c).post z in
     let a = z.0.3 in
     let vss = z.0.4 in
@@ -26,8 +25,7 @@ trimmed_spec 𝓤 𝓛 𝓜 𝓡 wired T L =
     let q : Share = z.0.1.0 in
     let R : RattleType = param 0 T in
     let E : El = record { row = T; laws = L } in
-    let τ : Ty = layout T in
-    let s = size τ in
+    let s = size (layout T) in
     let x = a.0 in
     let u = x.unit in
     let r : Region = x.region in
@@ -61,7 +59,7 @@ trimmed_spec 𝓤 𝓛 𝓜 𝓡 wired T L =
     fpack ! (IsPiece r p at n') (λ _. behind (block_type E cap') b at n') is' $ fpack ! ℕ (λ j. fex (IsPiece r p j n') (λ _. behind (block_type E cap') b j n')) at $ move ! (3 ∷ 1 ∷ 0 ∷ []) $ fjoin3 ! $
     let tail = at + m in let end : Ptr = block_ptr b tail in
     rewrite ! 1 (λ (j : ℕ). ‵ (bytes_at (block_ptr b (at + j)) d)) shorter refl $
-    regoal ! (λ (us : List Val). prop (WpFn 𝓤 H 𝓣.C 𝓣.Λ fn us Post)) (λ i. told i ++ (are.1.0.0 i ++ (are.1.1.0.0 i ++ (are.1.1.1.0.0 i ++ [])))) refl $
+    regoal ! (λ (us : List Val). prop (WpFn 𝓤 𝓛.H 𝓣.C 𝓣.Λ fn us Post)) (λ i. told i ++ (are.1.0.0 i ++ (are.1.1.0.0 i ++ (are.1.1.1.0.0 i ++ [])))) refl $
     enter ! 𝓣.C 𝓣.Λ fn (buffer_val p ∷ vint w64 cap' ∷ vint w64 m ∷ vint w64 d ∷ []) Post $
     alloc_all ! (λ l. pass_all ! refl ((tt, (tt, (tt, tt))), ((tt, record { fits = are.1.0.1 }), ((tt, record { fits = are.1.1.0.1 }), ((tt, record { fits = are.1.1.1.0.1 }), tt)))) $ let En : Env 𝓤 𝓛.H = env fn.locals l in
     sets ! (of_opd ! (get_in ! (fld ! refl (stop !)) (sub ! 0 refl (whole !)))) refl (tt, tt) $

@@ -4,21 +4,19 @@ use Rattle.std_alloc.proofs.vec.lodged.Vec+T+Lodged.dislodge.Met as callee
 use Rattle.tlsf_arena.specs.FilledPieces.{piece_within}
 use Rattle.tlsf_arena.proofs.Lodging.{byte_laws, vec_tells, piece_in, Dislodges, at_dislodge, dislodge_goes, dislodge_gives}
 use Rattle.tlsf_arena.specs.contracts.piece.Piece as piece
-use Rattle.tlsf_arena.specs.contracts.husk.Husk.close.{ended, clauses}
+use Rattle.tlsf_arena.specs.contracts.husk.Husk.close.{ended as En₀, clauses}
 use Rattle.tlsf_arena.specs.contracts.husk.Husk.close.Key.{name as #self}
 use Rattle.tlsf_arena.proofs.husk.Husk.close.Statement.{statement}
 use Rattle.tlsf_arena.proofs.husk.Husk.close.Code as compiled
 
 pub close_spec : {M : Type 1} → statement M
 close_spec 𝓤 𝓛 𝓜 𝓡 wired =
-    let H = 𝓛.H in
-    let En₀ = ended in
     let c = clauses 𝓛 𝓜.mem 𝓡.returns in
     let fn : Fn = compiled.function in
     let stays : Stays En₀.signature.params En₀.kept = (stay_dropped (slot_at 0 En₀.signature.params) En₀.kept.0, (stay_dropped (slot_at 1 En₀.signature.params) En₀.kept.1.0, tt)) in
-    let 𝓣 = tables 𝓤 H 𝓜 𝓡 𝓡.env in
+    let 𝓣 = tables 𝓤 𝓛.H 𝓜 𝓡 𝓡.env in
     let met = callee.met 𝓤 𝓛 𝓜 𝓡 (compiled.calls-std_alloc::vec::lodged::Vec+T+Lodged::dislodge 𝓡.env wired) u8 byte_laws in
-    proved_at 𝓛 En₀ stays c 𝓜 𝓡 (Goes-blank 𝓛 0 (slot_at 0 En₀.signature.params) En₀.kept.0 (λ κs x f. tt), (Goes-blank 𝓛 0 (slot_at 1 En₀.signature.params) En₀.kept.1.0 (λ κs x f. tt), tt)) #self fn (compiled.unfolded 𝓤 H 𝓜 𝓡 wired) (λ z are.
+    proved_at 𝓛 En₀ stays c 𝓜 𝓡 (Goes-blank 𝓛 0 (slot_at 0 En₀.signature.params) En₀.kept.0 (λ κs x f. tt), (Goes-blank 𝓛 0 (slot_at 1 En₀.signature.params) En₀.kept.1.0 (λ κs x f. tt), tt)) #self fn (compiled.unfolded 𝓤 𝓛.H 𝓜 𝓡 wired) (λ z are.
     let Post : Val → SProp 𝓤 = (walk_of 𝓛 En₀ stays c).post z in
     let a = z.0.3 in
     let vss = z.0.4 in
@@ -34,7 +32,7 @@ close_spec 𝓤 𝓛 𝓜 𝓡 wired =
     let Asked : Type 0 = (d.ptr ≡ x.ptr) × (d.cap ≡ n) in
     qed 𝓛 ((raw (alive 𝓛 En₀.signature z.0.0 z.0.1) ⊛ ‵ (owns (types_at En₀.signature.params z.0.0) a vss)) ∷ raw (fact 𝓤 Asked) ∷ []) ∵ move ! (1 ∷ []) $ heard ! Asked (λ asked. split ! $ move ! (1 ∷ []) $
     fsplit ! $ fsplit ! $ drop ! $ move ! (1 ∷ []) $ fsplit ! $ vec_tells ! d vss.1.0 (λ u is good. move ! (1 ∷ []) $ drop ! $
-    regoal ! (λ (us : List Val). prop (WpFn 𝓤 H 𝓣.C 𝓣.Λ fn us Post)) (λ i. (told.0 ∙ ap (λ (q : Ptr). sized_val q n ∷ []) x.placed.0) i ++ (is i ++ [])) refl $
+    regoal ! (λ (us : List Val). prop (WpFn 𝓤 𝓛.H 𝓣.C 𝓣.Λ fn us Post)) (λ i. (told.0 ∙ ap (λ (q : Ptr). sized_val q n ∷ []) x.placed.0) i ++ (is i ++ [])) refl $
     enter ! 𝓣.C 𝓣.Λ fn (sized_val p n ∷ u ∷ []) Post $
     alloc_all ! (λ l. pass_all ! refl ((tt, (tt, (record { fits = fits }, tt))), (good, tt)) $ let En : Env 𝓤 𝓛.H = env fn.locals l in
     let y = at_dislodge 𝓛 𝓜.mem 𝓡.returns d u in

@@ -4,38 +4,34 @@ use Rattle.std_alloc.proofs.vec.lodge.Met as callee
 use Rattle.tlsf_arena.specs.FilledPieces.{piece_within}
 use Rattle.tlsf_arena.proofs.Lodging.{byte_laws, Housed, Good, vec_tells, piece_out, Lodges, at_lodge, IsLodged, lodge_goes, lodge_gives}
 use Rattle.tlsf_arena.specs.contracts.husk.Husk as husk
-use Rattle.tlsf_arena.specs.contracts.husk.Husk.open.{ended, clauses}
+use Rattle.tlsf_arena.specs.contracts.husk.Husk.open.{ended as En₀, clauses}
 use Rattle.tlsf_arena.specs.contracts.husk.Husk.open.Key.{name as #self}
 use Rattle.tlsf_arena.proofs.husk.Husk.open.Statement.{statement}
 use Rattle.tlsf_arena.proofs.husk.Husk.open.Code as compiled
 
 pub open_spec : {M : Type 1} → statement M
 open_spec 𝓤 𝓛 𝓜 𝓡 wired =
-    let H = 𝓛.H in
-    let En₀ = ended in
     let c = clauses 𝓛 𝓜.mem 𝓡.returns in
     let fn : Fn = compiled.function in
     let stays : Stays En₀.signature.params En₀.kept = (stay_dropped (slot_at 0 En₀.signature.params) En₀.kept.0, tt) in
-    let 𝓣 = tables 𝓤 H 𝓜 𝓡 𝓡.env in
+    let 𝓣 = tables 𝓤 𝓛.H 𝓜 𝓡 𝓡.env in
     let met = callee.met 𝓤 𝓛 𝓜 𝓡 (compiled.calls-std_alloc::vec::lodge 𝓡.env wired) u8 byte_laws in
-    proved_at 𝓛 En₀ stays c 𝓜 𝓡 (Goes-blank 𝓛 0 (slot_at 0 En₀.signature.params) En₀.kept.0 (λ κs x f. tt), tt) #self fn (compiled.unfolded 𝓤 H 𝓜 𝓡 wired) (λ z are.
+    proved_at 𝓛 En₀ stays c 𝓜 𝓡 (Goes-blank 𝓛 0 (slot_at 0 En₀.signature.params) En₀.kept.0 (λ κs x f. tt), tt) #self fn (compiled.unfolded 𝓤 𝓛.H 𝓜 𝓡 wired) (λ z are.
     let Post : Val → SProp 𝓤 = (walk_of 𝓛 En₀ stays c).post z in
-    let a = z.0.3 in
-    let vss = z.0.4 in
-    let x = a.0 in
+    let x = z.0.3.0 in
     let n = x.size in
     let b = x.region.block in
     let o = x.at in
     let p : Ptr = block_ptr b o in
-    let told = sized_told x.ptr n vss.0 are.0.0 in
+    let told = sized_told x.ptr n z.0.4.0 are.0.0 in
     let fits = told.1 in
     let small : n < 2 ^ 63 = omega (arith, x.placed.2, x.placed.3) in
     let words : Good husk.the_row (sized_val p n) = (tt, (tt, (record { fits = fits }, tt))) in
-    qed 𝓛 ((raw (alive 𝓛 En₀.signature z.0.0 z.0.1) ⊛ ‵ (owns (types_at En₀.signature.params z.0.0) a vss)) ∷ ‵ ftrue ∷ []) ∵ move ! (1 ∷ []) $ drop ! $ split ! $ move ! (1 ∷ []) $
+    qed 𝓛 ((raw (alive 𝓛 En₀.signature z.0.0 z.0.1) ⊛ ‵ (owns (types_at En₀.signature.params z.0.0) z.0.3 z.0.4)) ∷ ‵ ftrue ∷ []) ∵ move ! (1 ∷ []) $ drop ! $ split ! $ move ! (1 ∷ []) $
     fsplit ! $ fsplit ! $ drop ! $ move ! (1 ∷ []) $ drop ! $
     rewrite ! 0 (λ (q : Ptr). ‵ (bytes_at q n)) x.placed.0 refl $
     use1 𝓛 (‵ (lodged u8 p 0 n []) ⊛ ‵ (ways w8 b o (n / 16))) (piece_out 𝓛 b o n (omega (arith, x.placed.4.0)) x.placed.4.1 small) $ split ! $
-    regoal ! (λ (us : List Val). prop (WpFn 𝓤 H 𝓣.C 𝓣.Λ fn us Post)) (λ i. (told.0 ∙ ap (λ (q : Ptr). sized_val q n ∷ []) x.placed.0) i ++ []) refl $
+    regoal ! (λ (us : List Val). prop (WpFn 𝓤 𝓛.H 𝓣.C 𝓣.Λ fn us Post)) (λ i. (told.0 ∙ ap (λ (q : Ptr). sized_val q n ∷ []) x.placed.0) i ++ []) refl $
     enter ! 𝓣.C 𝓣.Λ fn (sized_val p n ∷ []) Post $
     alloc_all ! (λ l. pass_all ! refl (words, tt) $ let En : Env 𝓤 𝓛.H = env fn.locals l in
     let y = at_lodge 𝓛 𝓜.mem 𝓡.returns b o n in

@@ -17,17 +17,15 @@ use Rattle.tlsf_arena.proofs.local.LocalArenaAllocator.deallocate.Code as compil
 
 pub deallocate_spec : {M : Type 1} → statement M
 deallocate_spec 𝓤 𝓛 𝓜 𝓡 wired S U fS fU =
-    let H = 𝓛.H in
     let En₀ = ended (number S) (number U) in
     let c = clauses (number S) (number U) 𝓛 𝓜.mem 𝓡.returns in
     let args : Args = layouts (a_number ∷ a_number ∷ []) (number S, (number U, tt)) in
     let fn : Fn = inst_fn args compiled.function in
     let stays : Stays En₀.signature.params En₀.kept = (stay_dropped (slot_at 0 En₀.signature.params) En₀.kept.0, (stay_dropped (slot_at 1 En₀.signature.params) En₀.kept.1.0, (stay_dropped (slot_at 2 En₀.signature.params) En₀.kept.1.1.0, (stay_dropped (slot_at 3 En₀.signature.params) En₀.kept.1.1.1.0, tt)))) in
-    let 𝓣 = tables 𝓤 H 𝓜 𝓡 𝓡.env in
-    proved_at 𝓛 En₀ stays c 𝓜 𝓡 (Goes-dropped 𝓛 3 (slot_at 0 En₀.signature.params) En₀.kept.0 (λ κs x f. refl), (Goes-dropped 𝓛 3 (slot_at 1 En₀.signature.params) En₀.kept.1.0 (λ κs x f. refl), (Goes-dropped 𝓛 3 (slot_at 2 En₀.signature.params) En₀.kept.1.1.0 (λ κs x f. refl), (Goes-dropped 𝓛 3 (slot_at 3 En₀.signature.params) En₀.kept.1.1.1.0 (λ κs x f. refl), tt)))) (#self args) fn (compiled.unfolded 𝓤 H 𝓜 𝓡 wired (number S, (number U, tt))) (λ z are.
+    let 𝓣 = tables 𝓤 𝓛.H 𝓜 𝓡 𝓡.env in
+    proved_at 𝓛 En₀ stays c 𝓜 𝓡 (Goes-dropped 𝓛 3 (slot_at 0 En₀.signature.params) En₀.kept.0 (λ κs x f. refl), (Goes-dropped 𝓛 3 (slot_at 1 En₀.signature.params) En₀.kept.1.0 (λ κs x f. refl), (Goes-dropped 𝓛 3 (slot_at 2 En₀.signature.params) En₀.kept.1.1.0 (λ κs x f. refl), (Goes-dropped 𝓛 3 (slot_at 3 En₀.signature.params) En₀.kept.1.1.1.0 (λ κs x f. refl), tt)))) (#self args) fn (compiled.unfolded 𝓤 𝓛.H 𝓜 𝓡 wired (number S, (number U, tt))) (λ z are.
     let Post : Val → SProp 𝓤 = (walk_of 𝓛 En₀ stays c).post z in
     let a = z.0.3 in
-    let vss = z.0.4 in
     let InS : Type 0 = z.0.0.1.0 ⊑ (number S).lives in
     let InU : Type 0 = z.0.0.1.1.0 ⊑ (number U).lives in
     let Fits : Type 0 = size (layout (local.the_row (param 0 (number S)) (param 1 (number U)))) < 2 ^ 63 in
@@ -44,13 +42,13 @@ deallocate_spec 𝓤 𝓛 𝓜 𝓡 wired S U fS fU =
     let y₀ : k₀.Ghost = ((tt, tt, tt, (n, (U, tt)), (vint w64 n ∷ [], (vint w64 U ∷ [], tt))), tt) in
     let k = triple_of 𝓛 (callee.signature (number S) (number U)) (callee.spec (number S) (number U) 𝓛 𝓜.mem 𝓡.returns) in
     let Asked : Type 0 = (capped (size τ) ≡ n) × (capped (align τ) ≡ al) in
-    qed 𝓛 ((raw (alive 𝓛 En₀.signature z.0.0 z.0.1) ⊛ ‵ (owns (types_at En₀.signature.params z.0.0) a vss)) ∷ (raw (fact 𝓤 InS) ⊛ raw (fact 𝓤 InU) ⊛ raw (fact 𝓤 Fits) ⊛ raw (fact 𝓤 Asked) ⊛ ‵ (room_for τ from) ⊛ ‵ (whole_token U h τ from)) ∷ []) ∵
+    qed 𝓛 ((raw (alive 𝓛 En₀.signature z.0.0 z.0.1) ⊛ ‵ (owns (types_at En₀.signature.params z.0.0) a z.0.4)) ∷ (raw (fact 𝓤 InS) ⊛ raw (fact 𝓤 InU) ⊛ raw (fact 𝓤 Fits) ⊛ raw (fact 𝓤 Asked) ⊛ ‵ (room_for τ from) ⊛ ‵ (whole_token U h τ from)) ∷ []) ∵
     move ! (1 ∷ []) $ split3 ! $ heard ! InS (λ inS. heard ! InU (λ inU. split ! $ heard ! Fits (λ small. split3 ! $ heard ! Asked (λ asked. move ! (1 ∷ []) $ fsplit ! $ fpick ! (λ at. fpick ! (λ placed. move ! (1 ∷ []) $ fpick ! (λ t. fpick ! (λ stands. move ! (2 ∷ 1 ∷ []) $
     rewrite ! 0 (λ (u : Ptr). ‵ (room_for τ u)) placed.0 refl $ use2 𝓛 (‵ (bytes_at (block_ptr r.block at) m)) (takes_in 𝓛 U served r τ at placed.4.1) $
     let p : Ptr = block_ptr r.block at in let inside' = placed.2 in let top = placed.3 in let holds = piece_holds U (size τ) served in let short : size τ < 2 ^ 63 = omega arith in let same : size τ ≡ n = sym (capped_is (size τ) (omega arith)) ∙ asked.0 in
     -- [the bytes; the right; the tokens with the arguments]
     move ! (2 ∷ []) $ split ! $ move ! (1 ∷ []) $ fsplit ! $ fsplit ! $ keep ! (4 ∷ 5 ∷ 1 ∷ 3 ∷ []) $
-    regoal ! (λ (us : List Val). prop (WpFn 𝓤 H 𝓣.C 𝓣.Λ fn us Post)) (λ i. are.0.0 i ++ ((are.1.0 ∙ ap (λ (u : Ptr). ptr_val u ∷ []) placed.0) i ++ (are.1.1.0.0 i ++ (are.1.1.1.0.0 i ++ [])))) refl $
+    regoal ! (λ (us : List Val). prop (WpFn 𝓤 𝓛.H 𝓣.C 𝓣.Λ fn us Post)) (λ i. are.0.0 i ++ ((are.1.0 ∙ ap (λ (u : Ptr). ptr_val u ∷ []) placed.0) i ++ (are.1.1.0.0 i ++ (are.1.1.1.0.0 i ++ [])))) refl $
     enter ! 𝓣.C 𝓣.Λ fn (me ∷ vptr r.block at ∷ vint w64 n ∷ vint w64 al ∷ []) Post $
     alloc_all ! (λ l. pass_all ! refl ((tt, tt), ((tt, tt), ((tt, record { fits = are.1.1.0.1 }), ((tt, record { fits = are.1.1.1.0.1 }), tt)))) $ let En : Env 𝓤 𝓛.H = env fn.locals l in
     use0 𝓛 (raw (fact 𝓤 (IsUnit U × (n < 2 ^ 63)))) (fact_i 𝓤 (IsUnit U × (n < 2 ^ 63)) (emp 𝓤) (served, omega arith)) $ nothing ! $ flt_i ! U (2 ^ 64) fU.fits $ feq_i ! (List Val) (vint w64 U ∷ []) (vint w64 U ∷ []) refl $ fjoin ! $ fjoin ! $ flt_i ! n (2 ^ 64) are.1.1.0.1 $ feq_i ! (List Val) (vint w64 n ∷ []) (vint w64 n ∷ []) refl $ fjoin ! $ fjoin ! $ nothing ! $ join ! $ join ! $ use1 𝓛 (raw (k₀.pre y₀)) (id⊢ 𝓤 _) $

@@ -12,17 +12,15 @@ use Rattle.tlsf_arena.proofs.local.LocalArenaAllocator.grow.Code as compiled
 
 pub grow_spec : {M : Type 1} → statement M
 grow_spec 𝓤 𝓛 𝓜 𝓡 wired S U T fS fU LT =
-    let H = 𝓛.H in
     let En₀ = ended (number S) (number U) T in
     let c = clauses (number S) (number U) T 𝓛 𝓜.mem 𝓡.returns in
     let args : Args = layouts (a_number ∷ a_number ∷ a_type ∷ []) (number S, (number U, (T, tt))) in
     let fn : Fn = inst_fn args compiled.function in
     let stays : Stays En₀.signature.params En₀.kept = (stay_dropped (slot_at 0 En₀.signature.params) En₀.kept.0, (stay_dropped (slot_at 1 En₀.signature.params) En₀.kept.1.0, (stay_dropped (slot_at 2 En₀.signature.params) En₀.kept.1.1.0, (stay_dropped (slot_at 3 En₀.signature.params) En₀.kept.1.1.1.0, (stay_dropped (slot_at 4 En₀.signature.params) En₀.kept.1.1.1.1.0, tt))))) in
-    let 𝓣 = tables 𝓤 H 𝓜 𝓡 𝓡.env in
-    proved_at 𝓛 En₀ stays c 𝓜 𝓡 (Goes-dropped 𝓛 4 (slot_at 0 En₀.signature.params) En₀.kept.0 (λ κs x f. refl), (Goes-dropped 𝓛 4 (slot_at 1 En₀.signature.params) En₀.kept.1.0 (λ κs x f. refl), (Goes-dropped 𝓛 4 (slot_at 2 En₀.signature.params) En₀.kept.1.1.0 (λ κs x f. refl), (Goes-dropped 𝓛 4 (slot_at 3 En₀.signature.params) En₀.kept.1.1.1.0 (λ κs x f. refl), (Goes-dropped 𝓛 4 (slot_at 4 En₀.signature.params) En₀.kept.1.1.1.1.0 (λ κs x f. refl), tt))))) (#self args) fn (compiled.unfolded 𝓤 H 𝓜 𝓡 wired (number S, (number U, (T, tt)))) (λ z are.
+    let 𝓣 = tables 𝓤 𝓛.H 𝓜 𝓡 𝓡.env in
+    proved_at 𝓛 En₀ stays c 𝓜 𝓡 (Goes-dropped 𝓛 4 (slot_at 0 En₀.signature.params) En₀.kept.0 (λ κs x f. refl), (Goes-dropped 𝓛 4 (slot_at 1 En₀.signature.params) En₀.kept.1.0 (λ κs x f. refl), (Goes-dropped 𝓛 4 (slot_at 2 En₀.signature.params) En₀.kept.1.1.0 (λ κs x f. refl), (Goes-dropped 𝓛 4 (slot_at 3 En₀.signature.params) En₀.kept.1.1.1.0 (λ κs x f. refl), (Goes-dropped 𝓛 4 (slot_at 4 En₀.signature.params) En₀.kept.1.1.1.1.0 (λ κs x f. refl), tt))))) (#self args) fn (compiled.unfolded 𝓤 𝓛.H 𝓜 𝓡 wired (number S, (number U, (T, tt)))) (λ z are.
     let Post : Val → SProp 𝓤 = (walk_of 𝓛 En₀ stays c).post z in
     let a = z.0.3 in
-    let vss = z.0.4 in
     let R : RattleType = param 2 T in
     let s = size (layout T) in
     let h : Home = a.0.now.slot in
@@ -38,7 +36,7 @@ grow_spec 𝓤 𝓛 𝓜 𝓡 wired S U T fS fU LT =
     let Fits : Type 0 = size (layout (local.the_row (param 0 (number S)) (param 1 (number U)))) < 2 ^ 63 in
     let k = triple_of 𝓛 (callee.signature (number S) (number U) T) (callee.spec (number S) (number U) T 𝓛 𝓜.mem 𝓡.returns) in
     let Asked : Type 0 = (len ≤ old) × (old ≤ new) × FitsBlock R new in
-    qed 𝓛 ((raw (alive 𝓛 En₀.signature z.0.0 z.0.1) ⊛ ‵ (owns (types_at En₀.signature.params z.0.0) a vss)) ∷ (raw (fact 𝓤 InS) ⊛ raw (fact 𝓤 InU) ⊛ raw (fact 𝓤 InT) ⊛ raw (fact 𝓤 Fits) ⊛ raw (fact 𝓤 Asked) ⊛ ‵ (block_with_items (whole_token U h) R from len old xs)) ∷ []) ∵
+    qed 𝓛 ((raw (alive 𝓛 En₀.signature z.0.0 z.0.1) ⊛ ‵ (owns (types_at En₀.signature.params z.0.0) a z.0.4)) ∷ (raw (fact 𝓤 InS) ⊛ raw (fact 𝓤 InU) ⊛ raw (fact 𝓤 InT) ⊛ raw (fact 𝓤 Fits) ⊛ raw (fact 𝓤 Asked) ⊛ ‵ (block_with_items (whole_token U h) R from len old xs)) ∷ []) ∵
     move ! (1 ∷ []) $ split3 ! $ heard ! InS (λ inS. heard ! InU (λ inU. split3 ! $ heard ! InT (λ inT. heard ! Fits (λ small. split ! $ heard ! Asked (λ asked.
     in_a_block ! from (λ p. block_with_items (whole_token U h) R p len old xs) (fst∗ 𝓤 (never 𝓤) (sem 𝓛 (fsep ffalse (whole_token U h (array_of R old) null_ptr)))) (λ b o lies.
     let p : Ptr = block_ptr b o in
@@ -51,7 +49,7 @@ grow_spec 𝓤 𝓛 𝓜 𝓡 wired S U T fS fU LT =
     use0 𝓛 (raw (fact 𝓤 Second)) (fact_i 𝓤 Second (emp 𝓤) (asked.0, omega (arith, asked.0, asked.1), times_below old new s (2 ^ 63) asked.1 asked.2, asked.2)) $ use0 𝓛 (raw (fact 𝓤 First)) (fact_i 𝓤 First (emp 𝓤) (refl, refl, refl, refl)) $ join ! $
     use0 𝓛 (raw (fact 𝓤 Fits)) (fact_i 𝓤 Fits (emp 𝓤) small) $ join ! $ use0 𝓛 (raw (fact 𝓤 InT)) (fact_i 𝓤 InT (emp 𝓤) inT) $ join ! $ use0 𝓛 (raw (fact 𝓤 InU)) (fact_i 𝓤 InU (emp 𝓤) inU) $ join ! $ use0 𝓛 (raw (fact 𝓤 InS)) (fact_i 𝓤 InS (emp 𝓤) inS) $ join ! $
     move ! (1 ∷ 0 ∷ []) $ join ! $ use1 𝓛 (raw (k.pre y)) (id⊢ 𝓤 _) $
-    regoal ! (λ (us : List Val). prop (WpFn 𝓤 H 𝓣.C 𝓣.Λ fn us Post)) (λ i. are.0.0 i ++ ((are.1.0 ∙ ap (λ (g : Ptr). ptr_val g ∷ []) lies) i ++ (are.1.1.0.0 i ++ (are.1.1.1.0.0 i ++ (are.1.1.1.1.0.0 i ++ []))))) refl $
+    regoal ! (λ (us : List Val). prop (WpFn 𝓤 𝓛.H 𝓣.C 𝓣.Λ fn us Post)) (λ i. are.0.0 i ++ ((are.1.0 ∙ ap (λ (g : Ptr). ptr_val g ∷ []) lies) i ++ (are.1.1.0.0 i ++ (are.1.1.1.0.0 i ++ (are.1.1.1.1.0.0 i ++ []))))) refl $
     enter ! 𝓣.C 𝓣.Λ fn (me ∷ vptr b o ∷ vint w64 len ∷ vint w64 old ∷ vint w64 new ∷ []) Post $
     alloc_all ! (λ l. pass_all ! refl ((tt, tt), ((tt, tt), ((tt, record { fits = are.1.1.0.1 }), ((tt, record { fits = are.1.1.1.0.1 }), ((tt, record { fits = are.1.1.1.1.0.1 }), tt))))) $ let En : Env 𝓤 𝓛.H = env fn.locals l in
     sets ! (agg ! (no_more !)) refl (tt, tt) $

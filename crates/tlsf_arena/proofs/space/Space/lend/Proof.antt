@@ -3,24 +3,21 @@ use Rattle.tlsf_arena.proofs.Walking.{◌≡◌, ℕ, suc, ◌+◌, ◌-◌, ◌
 use Rattle.tlsf_arena.proofs.Rooms.{marked_run, same_length, lends}
 use Rattle.tlsf_arena.specs.contracts.piece.Piece as piece
 use Rattle.tlsf_arena.specs.contracts.space.Space as space
-use Rattle.tlsf_arena.specs.contracts.space.Space.lend.{ended, clauses}
+use Rattle.tlsf_arena.specs.contracts.space.Space.lend.{ended as En₀, clauses}
 use Rattle.tlsf_arena.specs.contracts.space.Space.lend.Key.{name as #self}
 use Rattle.tlsf_arena.proofs.space.Space.lend.Statement.{statement}
 use Rattle.tlsf_arena.proofs.space.Space.lend.Code as compiled
 
 pub lend_spec : {M : Type 1} → statement M
 lend_spec 𝓤 𝓛 𝓜 𝓡 wired =
-    let H = 𝓛.H in
-    let En₀ = ended in
     let c = clauses 𝓛 𝓜.mem 𝓡.returns in
     let fn : Fn = compiled.function in
     let stays : Stays En₀.signature.params En₀.kept = (stay_dropped (slot_at 0 En₀.signature.params) En₀.kept.0, (stay_dropped (slot_at 1 En₀.signature.params) En₀.kept.1.0, (stay_dropped (slot_at 2 En₀.signature.params) En₀.kept.1.1.0, tt))) in
-    let 𝓣 = tables 𝓤 H 𝓜 𝓡 𝓡.env in
-    proved_at 𝓛 En₀ stays c 𝓜 𝓡 (Goes-blank 𝓛 0 (slot_at 0 En₀.signature.params) En₀.kept.0 (λ κs x f. tt), (Goes-dropped 𝓛 0 (slot_at 1 En₀.signature.params) En₀.kept.1.0 (λ κs x f. refl), (Goes-dropped 𝓛 0 (slot_at 2 En₀.signature.params) En₀.kept.1.1.0 (λ κs x f. refl), tt))) #self fn (compiled.unfolded 𝓤 H 𝓜 𝓡 wired) (λ z are.
+    let 𝓣 = tables 𝓤 𝓛.H 𝓜 𝓡 𝓡.env in
+    proved_at 𝓛 En₀ stays c 𝓜 𝓡 (Goes-blank 𝓛 0 (slot_at 0 En₀.signature.params) En₀.kept.0 (λ κs x f. tt), (Goes-dropped 𝓛 0 (slot_at 1 En₀.signature.params) En₀.kept.1.0 (λ κs x f. refl), (Goes-dropped 𝓛 0 (slot_at 2 En₀.signature.params) En₀.kept.1.1.0 (λ κs x f. refl), tt))) #self fn (compiled.unfolded 𝓤 𝓛.H 𝓜 𝓡 wired) (λ z are.
     let Post : Val → SProp 𝓤 = (walk_of 𝓛 En₀ stays c).post z in
     let a = z.0.3 in
     let vss = z.0.4 in
-    let Owned = raw (alive 𝓛 En₀.signature z.0.0 z.0.1) ⊛ ‵ (owns (types_at En₀.signature.params z.0.0) a vss) in
     let x = a.0 in
     let i₀ = a.1.0 in
     let n = a.1.1.0 in
@@ -30,7 +27,7 @@ lend_spec 𝓤 𝓛 𝓜 𝓡 wired =
     let told : vss.0 ≡ list_val start ∷ [] = (list_told x.base vss.0 are.0.0).0 ∙ ap (λ (p : Ptr). list_val p ∷ []) x.placed.0 in
     let k = n / 16 - 1 in
     let Asked : Type 0 = IsRun x.free i₀ (n / 16) true × (16 ≤ n) × (n % 16 ≡ 0) in
-    qed 𝓛 (Owned ∷ raw (fact 𝓤 Asked) ∷ []) ∵ move ! (1 ∷ []) $ heard ! Asked (λ asked. split ! $ move ! (1 ∷ []) $
+    qed 𝓛 ((raw (alive 𝓛 En₀.signature z.0.0 z.0.1) ⊛ ‵ (owns (types_at En₀.signature.params z.0.0) a vss)) ∷ raw (fact 𝓤 Asked) ∷ []) ∵ move ! (1 ∷ []) $ heard ! Asked (λ asked. split ! $ move ! (1 ∷ []) $
     let pre : List Bool = asked.0.0.0 in let post : List Bool = asked.0.0.1 in
     let many : n / 16 ≡ suc k = omega (arith, asked.1) in
     let bytes : 16 * suc k ≡ n = omega (arith, asked.1, asked.2) in
@@ -46,7 +43,7 @@ lend_spec 𝓤 𝓛 𝓜 𝓡 wired =
     use1 𝓛 (‵ (free_rooms b r.start left) ⊛ ‵ (bytes_at (block_ptr b (r.start + 16 * length pre)) (16 * suc k))) (lends 𝓛 b r.start pre post k) $ split ! $
     rewrite ! 1 (λ (u : ℕ × ℕ). ‵ (bytes_at (block_ptr b u.0) u.1)) (λ i. (here i, bytes i)) refl $
     let ptr : Ptr = block_ptr b at in
-    regoal ! (λ (us : List Val). prop (WpFn 𝓤 H 𝓣.C 𝓣.Λ fn us Post)) (λ i. told i ++ (are.1.0.0 i ++ (are.1.1.0.0 i ++ []))) refl $
+    regoal ! (λ (us : List Val). prop (WpFn 𝓤 𝓛.H 𝓣.C 𝓣.Λ fn us Post)) (λ i. told i ++ (are.1.0.0 i ++ (are.1.1.0.0 i ++ []))) refl $
     enter ! 𝓣.C 𝓣.Λ fn (list_val start ∷ vint w64 i₀ ∷ vint w64 n ∷ []) Post $
     alloc_all ! (λ l. pass_all ! refl ((tt, (tt, tt)), ((tt, record { fits = are.1.0.1 }), ((tt, record { fits = are.1.1.0.1 }), tt))) $ let En : Env 𝓤 𝓛.H = env fn.locals l in
     sets ! (of_opd ! (get_in ! (fld ! refl (stop !)) (sub ! 0 refl (whole !)))) refl (tt, tt) $
