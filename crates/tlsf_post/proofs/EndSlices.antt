@@ -1,10 +1,7 @@
 -- A slice that came out of a lane's end is one post, and then a slice of the others.
-use Rattle.tlsf_post.proofs.Common.{[], ◌∷◌, ◌++◌, ◌≡◌, ◌+◌, List, length, drop, refl, sym, ◌∙◌, ap, arith, append_assoc, append-nil, length-append, length-drop, drop-append-le, Post}
-use mathlib.Core.List.{IsPrefix}
+use Rattle.tlsf_post.proofs.Common.{[], ◌∷◌, ◌++◌, ◌≡◌, ◌+◌, List, length, drop, refl, sym, ◌∙◌, ap, arith, append_assoc, append-nil, length-append, length-drop, drop-append-le, Post, IsPrefix, received, waited, taken, ready, IsLane, KeepsTake}
 use Rattle.rtrb.specs.Fifo.{position_of}
-use Rattle.rtrb.specs.Ring.{received}
 use Rattle.tlsf_post.specs.declared.take_end.TakeEnd.{TakeEnd}
-use Rattle.tlsf_post.specs.Lanes.{waited, taken, ready, IsLane, KeepsTake}
 
 -- the end t became u as these posts came out
 pub record EndSlice (t u : TakeEnd) (posts : List Post) : Type 0 where

@@ -1,7 +1,6 @@
 -- The knowledge once all posters came back and went out again.
-use Rattle.tlsf_post.proofs.Common.{◌≡◌, ◌≢◌, ◌⊎◌, inl, inr, ⊎_elim, ℕ, ◌+◌, ◌<◌, ◌≤◌, true, false, List, [], ◌∷◌, ◌++◌, length, map, All, refl, sym, ap, ◌∙◌, arith, subst, cases_eq, map-append, Post, View, posts_of, posts_but, owner_view, AreOfPosters, IsIn, Shows, All-weaker, number_of, put_by, gone_from, below_but, next_but, IsFreshAt, IsOfPass, CameBack}
+use Rattle.tlsf_post.proofs.Common.{◌≡◌, ◌≢◌, ◌⊎◌, inl, inr, ⊎_elim, ℕ, ◌+◌, ◌<◌, ◌≤◌, true, false, List, [], ◌∷◌, ◌++◌, length, map, All, refl, sym, ap, ◌∙◌, arith, subst, cases_eq, map-append, Post, View, posts_of, posts_but, owner_view, AreOfPosters, IsIn, Shows, All-weaker, number_of, put_by, gone_from, below_but, next_but, IsFreshAt, IsOfPass, CameBack, Pass, view}
 use Rattle.tlsf_post.specs.declared.poster_end.PosterEnd.{PosterEnd}
-use Rattle.crossbeam_queue.specs.Passes.{Pass, view}
 use Rattle.tlsf_post.proofs.RuleSteps.{back_own, back_other}
 use Rattle.tlsf_post.proofs.Numbers.{but_last, but_next, but_none, all_pushed}
 

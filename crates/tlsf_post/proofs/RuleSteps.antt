@@ -1,10 +1,9 @@
 -- Each step on a mailbox's queue keeps its rule.
-use Rattle.tlsf_post.proofs.Common.{◌≡◌, ◌≢◌, ℕ, zero, suc, ◌+◌, ◌<◌, ◌≤◌, ◌⊎◌, inl, inr, true, false, true≢false, List, [], ◌∷◌, ◌++◌, length, set, sym, refl, ap, ◌∙◌, subst, ⊎_elim, append_assoc, arith, cond, eqb, eq-eqb, ne_eqb, not, cases_eq, cases_lt, cond-true, cond-false, length-append, All-nil, All-push, All-tail, filter-append, Bool, IsTrue, Some, None, MatchOption, IfNone, Post, View, Plan, posts_of, posts_but, plan_for, poster_view, owner_view, idle, MayPut, AreOfPosters, IsIn, Fits, Kept, Shows, ShowsOwn, HasPut, HasTaken}
+use Rattle.tlsf_post.proofs.Common.{◌≡◌, ◌≢◌, ℕ, zero, suc, ◌+◌, ◌<◌, ◌≤◌, ◌⊎◌, inl, inr, true, false, true≢false, List, [], ◌∷◌, ◌++◌, length, set, sym, refl, ap, ◌∙◌, subst, ⊎_elim, append_assoc, arith, cond, eqb, eq-eqb, ne_eqb, not, cases_eq, cases_lt, cond-true, cond-false, length-append, All-nil, All-push, All-tail, filter-append, Bool, IsTrue, Some, None, MatchOption, IfNone, Post, View, Plan, posts_of, posts_but, plan_for, poster_view, owner_view, idle, MayPut, AreOfPosters, IsIn, Fits, Kept, Shows, ShowsOwn, HasPut, HasTaken, Maybe}
 use mathlib.Core.List.{IsPrefix, append-nil}
 use mathlib.Core.Option.{Option, some, none, some-ne-none, some-injective}
 use lib.ListN.{get_elem?}
 use Rattle.crossbeam_queue.specs.Fifo.{Pushes, Pops, Forks, Merges, Learns, Held}
-use Rattle.std.specs.Prelude.{Option as Maybe}
 use Rattle.crossbeam_queue.proofs.Lists.{at_set}
 
 -- ---- lists

@@ -1,7 +1,5 @@
 -- The words of the ends of a mailbox on the posts that waited.
-use Rattle.tlsf_post.proofs.Common.{◌≡◌, ◌≢◌, ℕ, ◌+◌, ◌<◌, ◌≤◌, List, [], ◌∷◌, ◌++◌, length, refl, sym, ap, ◌∙◌, subst, arith, length-append, All-tail, Option, Some, None, MatchOption, IfSome, Post, Plan, View, posts_of, plan_for, MayPut, AreOfPosters, Shows, HasTaken, owner_of, out_of, plan_at, OwnerSaw}
-use mathlib.Core.List.{IsPrefix}
-use Rattle.crossbeam_queue.specs.Passes.{view}
+use Rattle.tlsf_post.proofs.Common.{◌≡◌, ◌≢◌, ℕ, ◌+◌, ◌<◌, ◌≤◌, List, [], ◌∷◌, ◌++◌, length, refl, sym, ap, ◌∙◌, subst, arith, length-append, All-tail, Option, Some, None, MatchOption, IfSome, Post, Plan, View, posts_of, plan_for, MayPut, AreOfPosters, Shows, HasTaken, owner_of, out_of, plan_at, OwnerSaw, IsPrefix, view}
 use Rattle.tlsf_post.specs.declared.owner_end.OwnerEnd.{OwnerEnd}
 use Rattle.tlsf_post.proofs.RuleSteps.{of_own, of_plan}
 

@@ -55,6 +55,34 @@ impl TakeEnd {
         Some(self.ring.pop_known())
     }
 
+    /// How many of `wanted` posts are ready. It looks at what was sent where fewer are known. A slice of this many takes them all.
+    ///
+    /// - `lane`, `stays`, `waited`: as for `take`.
+    /// - `taken`: nothing is taken.
+    /// - `ready`: what was known to be ready still is, and more may have come after it.
+    /// - `most`: no more than are wanted, and no more than are ready.
+    /// - `all`: where fewer than are wanted, all that are ready.
+    ///
+    /// ```
+    /// let count = take_end.look(8);            // 0 right after `lane`
+    /// ```
+    #[inline(always)]
+    pub fn look(&mut self, wanted: usize) -> usize
+        ensures lane { KeepsTake self.old self.new }
+        ensures stays { take_extent self.new ≡ take_extent self.old }
+        ensures waited { waited self.new ≡ waited self.old }
+        ensures taken { taken self.new ≡ taken self.old }
+        ensures ready { IsPrefix (ready self.old) (ready self.new) }
+        ensures most { (result ≤ wanted) × (result ≤ length (ready self.new)) }
+        ensures all { result < wanted → result ≡ length (ready self.new) }
+    {
+        if self.ring.cached_slots() < wanted {
+            wanted.min(self.ring.slots())
+        } else {
+            wanted
+        }
+    }
+
     /// Takes as many posts as are ready and have a place in `posts`, and answers how many came. Their places are handed
     /// back together, with one store, so that a sender who spins disturbs the taking less. It fits where many wait; 64
     /// places are enough.

@@ -1,6 +1,4 @@
-use Rattle.std.proofs.Common.{rules}
-use Rattle.rtrb.specs.Ring.{sent, received}
-use Rattle.tlsf_post.specs.Lanes.{posts_sent, waited, taken, IsLane}
+use Rattle.tlsf_post.proofs.Common.{rules, sent, received, posts_sent, waited, taken, IsLane}
 use Rattle.tlsf_post.proofs.Order.{in_order}
 use Rattle.tlsf_post.proofs.lanes.beside.Goals as goal
 

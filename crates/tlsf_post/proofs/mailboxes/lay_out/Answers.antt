@@ -1,5 +1,4 @@
-use Rattle.tlsf_post.proofs.Common.{ap, View}
-use Rattle.crossbeam_queue.specs.Passes.{view}
+use Rattle.tlsf_post.proofs.Common.{ap, View, view}
 use Rattle.tlsf_post.proofs.RuleSteps.{plans}
 use Rattle.tlsf_post.proofs.mailboxes.lay_out.Goals as goal
 

@@ -1,5 +1,4 @@
-use Rattle.tlsf_post.proofs.Common.{◌≡◌, [], owner_view, plan_for}
-use Rattle.crossbeam_queue.specs.Passes.{view, IsPassOf}
+use Rattle.tlsf_post.proofs.Common.{◌≡◌, [], owner_view, plan_for, view, IsPassOf}
 use Rattle.tlsf_post.proofs.mailboxes.lay_out.Given as goal
 
 abbrev pub invariant-loop-k : goal.invariant-loop-k

@@ -1,6 +1,4 @@
-use Rattle.tlsf_post.proofs.Common.{arith, ℕ, ◌≡◌, ap, sym, ◌∙◌, ◌++◌, ◌+◌, ◌-◌, map, View, common_steps, plan_for, number_of, below_but, run}
-use Rattle.std.specs.Arc.{arc_value}
-use Rattle.crossbeam_queue.specs.Passes.{view, ruled_capacity}
+use Rattle.tlsf_post.proofs.Common.{arith, ℕ, ◌≡◌, ap, sym, ◌∙◌, ◌++◌, ◌+◌, ◌-◌, map, View, common_steps, plan_for, number_of, below_but, run, arc_value, view, ruled_capacity}
 use Rattle.tlsf_post.proofs.RuleSteps.{begins, skips}
 use Rattle.tlsf_post.proofs.RoundSteps.{fresh_puts}
 use Rattle.tlsf_post.proofs.Numbers.{but_whole}

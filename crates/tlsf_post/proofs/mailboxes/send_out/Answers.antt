@@ -1,5 +1,4 @@
-use Rattle.tlsf_post.proofs.Common.{rules, arith, ap, ◌∙◌, ◌+◌, ◌<◌, sym, subst, common_steps, map-append, View, Plan, owner_view, poster_view, posts_of, MayPut, IsFreshAt}
-use Rattle.crossbeam_queue.specs.Passes.{view}
+use Rattle.tlsf_post.proofs.Common.{rules, arith, ap, ◌∙◌, ◌+◌, ◌<◌, sym, subst, common_steps, map-append, View, Plan, owner_view, poster_view, posts_of, MayPut, IsFreshAt, view}
 use Rattle.tlsf_post.proofs.RuleSteps.{forks}
 use Rattle.tlsf_post.proofs.Numbers.{apart_from, run_push, all_pushed}
 use Rattle.tlsf_post.proofs.mailboxes.send_out.Goals as goal

@@ -1,6 +1,4 @@
-use Rattle.tlsf_post.proofs.Common.{◌≡◌, ◌+◌, ◌-◌, [], ◌++◌, map, All, vec_len, vec_capacity, owner_view, number_of, run, IsFreshAt}
-use Rattle.std.specs.Arc.{arc_value}
-use Rattle.crossbeam_queue.specs.Passes.{view, IsPassOf}
+use Rattle.tlsf_post.proofs.Common.{◌≡◌, ◌+◌, ◌-◌, [], ◌++◌, map, All, vec_len, vec_capacity, owner_view, number_of, run, IsFreshAt, arc_value, view, IsPassOf}
 use Rattle.tlsf_post.proofs.mailboxes.send_out.Given as goal
 
 abbrev pub invariant-loop-number : goal.invariant-loop-number

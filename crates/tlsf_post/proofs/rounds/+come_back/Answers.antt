@@ -1,5 +1,4 @@
-use Rattle.tlsf_post.proofs.Common.{arith, ap, sym, refl, subst, ◌∙◌, ◌≡◌, ◌++◌, ℕ, ◌<◌, Some, length, common_steps, append-nil, All-pop, View, Plan, posts_but, owner_view, MayPut, put_by, below_but, IsOfPass}
-use Rattle.crossbeam_queue.specs.Passes.{view}
+use Rattle.tlsf_post.proofs.Common.{arith, ap, sym, refl, subst, ◌∙◌, ◌≡◌, ◌++◌, ℕ, ◌<◌, Some, length, common_steps, append-nil, All-pop, View, Plan, posts_but, owner_view, MayPut, put_by, below_but, IsOfPass, view}
 use Rattle.tlsf_post.proofs.RuleSteps.{learns, merges, signed_of}
 use Rattle.tlsf_post.proofs.Numbers.{all_pushed}
 use Rattle.tlsf_post.proofs.RoundSteps.{ends_still, back_none, back_some, last_of, gap, no_items}

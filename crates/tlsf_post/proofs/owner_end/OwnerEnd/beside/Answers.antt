@@ -1,5 +1,4 @@
-use Rattle.tlsf_post.proofs.Common.{◌≡◌, ℕ, List, [], ◌++◌, All, ap, sym, refl, ◌∙◌, subst, append-nil, All-weaker, View, Post, number_of, gone_from, owner_of, most_of, below_but, IsMailbox, IsOfPass, posts_of, plan_for}
-use Rattle.crossbeam_queue.specs.Passes.{view}
+use Rattle.tlsf_post.proofs.Common.{◌≡◌, ℕ, List, [], ◌++◌, All, ap, sym, refl, ◌∙◌, subst, append-nil, All-weaker, View, Post, number_of, gone_from, owner_of, most_of, below_but, IsMailbox, IsOfPass, posts_of, plan_for, view}
 use Rattle.tlsf_post.proofs.RuleSteps.{of_plan}
 use Rattle.tlsf_post.proofs.owner_end.OwnerEnd.beside.Goals as goal
 

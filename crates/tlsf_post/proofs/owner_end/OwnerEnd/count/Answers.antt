@@ -1,5 +1,4 @@
-use Rattle.tlsf_post.proofs.Common.{◌≤◌, sym, subst, View, Shows}
-use Rattle.crossbeam_queue.specs.Passes.{ruled_capacity}
+use Rattle.tlsf_post.proofs.Common.{◌≤◌, sym, subst, View, Shows, ruled_capacity}
 use Rattle.tlsf_post.proofs.RuleSteps.{learns}
 use Rattle.tlsf_post.proofs.Waited.{laid_still, owner_saw}
 use Rattle.tlsf_post.proofs.owner_end.OwnerEnd.count.Goals as goal

@@ -1,5 +1,4 @@
-use Rattle.std.proofs.Common.{ap, sym, ◌∙◌}
-use Rattle.crossbeam_queue.specs.Passes.{view, ruled_capacity}
+use Rattle.tlsf_post.proofs.Common.{ap, sym, ◌∙◌, view, ruled_capacity}
 use Rattle.tlsf_post.proofs.RuleSteps.{pushes, learns_own}
 use Rattle.tlsf_post.proofs.Waited.{full_alone}
 use Rattle.tlsf_post.proofs.poster_end.PosterEnd.put.Goals as goal
