@@ -1,4 +1,3 @@
--- The names that most proofs cite, passed on from one place.
+-- Each file says in its first line what it is on.
 mod Common
--- The lemmas, by the folder of what they are on.
 pub mod lemmas

@@ -16,8 +16,7 @@
 //! [`race`] runs a script for each worker, in a thread of its own, and then drains each worker. The answers to each are its record,
 //! in the [`Outcome`]. This holds whatever the schedule of the threads (`IsRace`). Each record is legal: it has the answers of the
 //! worker's own heap to its calls, one after another. Each two records agree on what was posted and taken, and nothing waits in the
-//! end. A [`Gate`] is passed before each call, where a test can have the threads meet. Where no script takes posts,
-//! [`race_without_takes`] says which records and which world each schedule leads to.
+//! end. A [`Gate`] is passed before each call, where a test can have the threads meet. `tlsf_yard_laws` has the laws of races.
 //!
 //! Each call of a `Worker` over lanes doesn't wait, and keeps its yard whole. A worker of either kind is `Send`,
 //! at each level: a `move` closure takes it into a thread, and its caller proves nothing of that.
@@ -27,7 +26,6 @@
 //! own one. Its calls on the own heap are those of every worker. Such a yard (`IsQueueYard`) shows a `World` too. There `post`,
 //! `release`, `take` and `drain` may wait for another thread's half of a step, and so are passed a runtime. [`race_queues`] races
 //! such workers (`IsQueueRace`): each two records agree on what was posted and taken, poster by poster.
-//! [`queue_race_without_takes`] says when every schedule leads to the same.
 //!
 //! A [`LockedHeap`] has no owner and stands outside any yard: any thread that has a reference to it may call it. Whoever locks it
 //! has its heap, as a [`Counted`], until the guard is dropped.
@@ -41,19 +39,16 @@
 //! it gives.
 #![tactic(auto)]
 
-mod fair_runs;
 mod histories;
 mod jobs;
 mod lanes;
 mod locked_heap;
 mod queues;
-mod race_laws;
 mod races;
 mod replays;
 mod scripts;
 mod worker;
 
-pub use fair_runs::laws::some_run_is_fair;
 pub use histories::history::one_history;
 pub use jobs::gate::{Gate, OpenGate};
 pub use jobs::outcome::{Outcome, QueueOutcome};
@@ -65,9 +60,6 @@ pub use queues::queue_laws::queues_join_the_yard;
 pub use queues::queue_opening::open_queue_yard;
 pub use queues::queue_settle::settle_queues;
 pub use queues::queues::{QueueWorker, Queues};
-pub use race_laws::alone::race_without_takes;
-pub use race_laws::laws::one_history_of_a_race;
-pub use race_laws::queue_laws::{one_history_of_a_queue_race, queue_race_without_takes};
 pub use races::queue_race::race_queues;
 pub use races::race::race;
 pub use replays::replay::{replay_behind, replay_events};

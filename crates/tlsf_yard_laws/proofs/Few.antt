@@ -1,9 +1,7 @@
 -- An inventory in which no name stands twice is no longer than a list that has all its names. The lanes to a worker have no more than
 -- they hold.
-use Rattle.tlsf_yard_laws.proofs.Common.{◌≡◌, ◌≢◌, ℕ, zero, suc, ◌+◌, ◌*◌, ◌<◌, ◌≤◌, ◌⊎◌, Bool, true, false, not, cond, eqb, List, [], ◌∷◌, ◌++◌, length, map, filter, Option, Some, None, refl, sym, ap, ◌∙◌, subst, inl, inr, arith, length-append, eq-eqb, cases_eq, false≢true, ne_eqb, length-map, Name, Post, is_same, Inventory}
+use Rattle.tlsf_yard_laws.proofs.Common.{◌≡◌, ◌≢◌, ℕ, zero, suc, ◌+◌, ◌*◌, ◌<◌, ◌≤◌, ◌⊎◌, Bool, true, false, not, cond, eqb, List, [], ◌∷◌, ◌++◌, length, map, filter, Option, Some, None, refl, sym, ap, ◌∙◌, subst, inl, inr, arith, length-append, eq-eqb, cases_eq, false≢true, ne_eqb, length-map, Name, Post, is_same, Inventory, same_self, same_is, AreNamesApart, lookup}
 use Rattle.tlsf_heap.proofs.lemmas.blocks.Find.{not_true}
-use Rattle.tlsf_pool.proofs.lemmas.laws.Names.{same_self, same_is}
-use Rattle.tlsf_pool.proofs.lemmas.laws.Inventories.{AreNamesApart, lookup}
 
 abbrev pub IsAmong : Name → List Name → Type 0
 IsAmong name [] = ⊥
@@ -48,14 +46,11 @@ few [] ms apart all = omega arith
 few (e ∷ l) ms apart all =
     let first : IsAmong e.0 ms = all e.0 e.1 (ap (λ (c : Bool). cond c (Some e.1) (lookup e.0 l)) (same_self e.0)) in
     let rest : length l ≤ length (removed e.0 ms) = few l (removed e.0 ms) apart.1 (λ name n is.
-    let other : e.0 ≡ name → ⊥ = λ q. none_some n (sym apart.0 ∙ (ap (λ (m : Name). lookup m l) q ∙ is)) in
+    let other : e.0 ≡ name → ⊥ = λ q. let none : ◌≡◌ {A = Option ℕ} None (Some n) = sym apart.0 ∙ (ap (λ (m : Name). lookup m l) q ∙ is) in cc in
     let differ : is_same e.0 name ≡ false = not_true _ (λ t. other (same_is e.0 name t)) in
     stays e.0 name ms other (all name n (ap (λ (c : Bool). cond c (Some e.1) (lookup name l)) differ ∙ is))) in
     let s = shorter e.0 ms first in
     omega arith
-  where
-    none_some : (n : ℕ) → ◌≡◌ {A = Option ℕ} None (Some n) → ⊥
-    none_some n e = cc
 
 -- ---- the names of an inventory
 

@@ -1,12 +1,6 @@
 -- A live block stays live until its release is accepted.
-use Rattle.tlsf_yard_laws.proofs.Common.{true, false, Bool, [], ◌∷◌, ◌≡◌, ◌≢◌, ℕ, ◌<◌, List, Option, Some, None, Result, Ok, Err, All, map, replicate, refl, sym, ap, ◌∙◌, subst, inl, inr, IsSome, if◌then◌else◌, AllByRecursion, cons_option, option_map, cases_eq, All-tail, IsLevel, HeapState, IsLawful, Name, Contents, after, contents, is_same, Entry, RunsTo, answer_told, answers_on, call_on_own, calls_on, handed_on}
+use Rattle.tlsf_yard_laws.proofs.Common.{true, false, Bool, [], ◌∷◌, ◌≡◌, ◌≢◌, ℕ, ◌<◌, List, Option, Some, None, Result, Ok, Err, All, map, replicate, refl, sym, ap, ◌∙◌, subst, inl, inr, IsSome, if◌then◌else◌, AllByRecursion, cons_option, option_map, cases_eq, All-tail, IsLevel, HeapState, IsLawful, Name, Contents, after, contents, is_same, Entry, RunsTo, answer_told, answers_on, call_on_own, calls_on, handed_on, IsLive, Refusal, change, live, same_is, runs_through, HasItsAnswer, told_other, told_own}
 use Rattle.tlsf_heap.specs.Calls as heap
-use Rattle.tlsf_heap.specs.Laws.{IsLive}
-use Rattle.tlsf_heap.specs.declared.refusal.Refusal.{Refusal}
-use Rattle.tlsf_pool.proofs.lemmas.laws.Looks.{change, live}
-use Rattle.tlsf_pool.proofs.lemmas.laws.Names.{same_is}
-use Rattle.tlsf_crew.proofs.lemmas.histories.Fronts.{runs_through}
-use Rattle.tlsf_crew.proofs.lemmas.histories.JoinedEntries.{HasItsAnswer, told_other, told_own}
 
 -- the call isn't an accepted release of this name
 abbrev Spares : Name → heap.Call → heap.Answer → Type 0

@@ -1,14 +1,7 @@
 -- Request by request: what is live is held by the programs or under way at some moment, so each request of a race finds room.
-use Rattle.tlsf_yard_laws.proofs.Common.{◌==◌, ◌≡◌, ◌≢◌, ℕ, zero, suc, ◌+◌, ◌-◌, ◌*◌, ◌<◌, ◌≤◌, ◌⊎◌, Bool, true, false, cond, eqb, List, [], ◌∷◌, ◌++◌, length, map, Option, Some, None, refl, sym, ap, ◌∙◌, subst, inl, inr, arith, length-append, append_assoc, append-nil, eq-eqb, cons_option, filter_map, cases_eq, false≢true, length-map, filter-append, IsLevel, HeapState, IsLawful, Name, Post, AreModest, IsModest, is_same, Inventory, inventory_after, inventory_after_all, World, heap_in, RunsTo, answer_told, answers_on, call_on_own, calls_on, entries_of, handed_on, post_of_release, post_of_take, record_of, Call, Entry, Carrier, IsRaceOver, OverLanes, OverQueues, most_under_way, without_post}
+use Rattle.tlsf_yard_laws.proofs.Common.{◌==◌, ◌≡◌, ◌≢◌, ℕ, zero, suc, ◌+◌, ◌-◌, ◌*◌, ◌<◌, ◌≤◌, ◌⊎◌, Bool, true, false, cond, eqb, List, [], ◌∷◌, ◌++◌, length, map, Option, Some, None, refl, sym, ap, ◌∙◌, subst, inl, inr, arith, length-append, append_assoc, append-nil, eq-eqb, cons_option, filter_map, cases_eq, false≢true, length-map, filter-append, IsLevel, HeapState, IsLawful, Name, Post, AreModest, IsModest, is_same, Inventory, inventory_after, inventory_after_all, World, heap_in, RunsTo, answer_told, answers_on, call_on_own, calls_on, entries_of, handed_on, post_of_release, post_of_take, record_of, Call, Entry, Carrier, IsRaceOver, OverLanes, OverQueues, most_under_way, without_post, lawful_run, opened_lawful, held_after, held_after_all, same_is, same_self, Agrees, agrees_run, live_agrees, lookup, new_agrees, runs_then, told_other, told_own, told_then, length_told, HasPast}
 use mathlib.Core.List.{IsPrefix}
 use Rattle.tlsf_heap.specs.Calls as heap
-use Rattle.tlsf_heap.proofs.lemmas.calls.Outcomes.{lawful_run}
-use Rattle.tlsf_heap.proofs.lemmas.blocks.Lawful.{opened_lawful}
-use Rattle.tlsf_pool.specs.laws.Held.{held_after, held_after_all}
-use Rattle.tlsf_pool.proofs.lemmas.laws.Names.{same_is, same_self}
-use Rattle.tlsf_pool.proofs.lemmas.laws.Inventories.{Agrees, agrees_run, live_agrees, lookup, new_agrees}
-use Rattle.tlsf_crew.proofs.lemmas.histories.JoinedEntries.{runs_then, told_other, told_own, told_then, length_told}
-use Rattle.tlsf_yard_laws.specs.Races.{HasPast}
 use Rattle.tlsf_yard_laws.specs.Moments.{IsShort, OrdersHaveMoments, RaceSharedMixedSizesServe, all_under_way, unreleased, AreSparingInRace}
 use Rattle.tlsf_yard_laws.proofs.Few.{IsAmong, among_left, among_right, few, names_of, posted, still_among, one_more}
 use Rattle.tlsf_yard_laws.proofs.RaceRecords.{heap_between}
@@ -18,10 +11,7 @@ use Rattle.tlsf_yard_laws.proofs.Told.{noted_same, past_holds, race_serves}
 -- ---- what is live is held, or its name is under way
 
 found_among : (name : Name) (n : ℕ) (l : Inventory) → lookup name l ≡ Some n → IsAmong name (names_of l)
-found_among name n [] e = absurd (none_some e)
-  where
-    none_some : ◌≡◌ {A = Option ℕ} None (Some n) → ⊥
-    none_some e = cc
+found_among name n [] e = let none : ◌≡◌ {A = Option ℕ} None (Some n) = e in absurd cc
 found_among name n (x ∷ l) e = at (found_among name n l) (is_same x.0 name) refl e
   where
     at : (lookup name l ≡ Some n → IsAmong name (names_of l)) → (c : Bool) → is_same x.0 name ≡ c → cond c (Some x.1) (lookup name l) ≡ Some n → IsAmong name (names_of (x ∷ l))

@@ -1,16 +1,11 @@
 -- A post that is taken finds its block live, where no name is given back twice.
-use Rattle.tlsf_yard_laws.proofs.Common.{[], ◌∷◌, ◌++◌, ◌≡◌, ◌≢◌, ◌⊎◌, ℕ, ◌<◌, List, Option, Some, None, Ok, All, length, refl, sym, ap, ◌∙◌, subst, inl, inr, arith, append_assoc, length-append, AllByRecursion, cons_option, filter_map, option_map, cases_eq, cases_lt, All-take, Name, Post, Call, Allocate, Release, Write, Read, Resize, Take, Drain, Entry, Reply, Freed, Posted, Refused, Heap, Target, World, heap_in, name_of, StandsBehind, answer_told, call_on_own, entries_of, meant, name_on_heap, post_of_release, posts_made, posts_taken, record_of, bytes_of, Carrier, IsRaceOver}
+use Rattle.tlsf_yard_laws.proofs.Common.{[], ◌∷◌, ◌++◌, ◌≡◌, ◌≢◌, ◌⊎◌, ℕ, ◌<◌, List, Option, Some, None, Ok, All, length, refl, sym, ap, ◌∙◌, subst, inl, inr, arith, append_assoc, length-append, AllByRecursion, cons_option, filter_map, option_map, cases_eq, cases_lt, All-take, Name, Post, Call, Allocate, Release, Write, Read, Resize, Take, Drain, Entry, Reply, Freed, Posted, Refused, Heap, Target, World, heap_in, name_of, StandsBehind, answer_told, call_on_own, entries_of, name_on_heap, post_of_release, posts_made, posts_taken, record_of, bytes_of, Carrier, IsRaceOver, IsLive, known, Taken, Took, own_post, ran_take, take_entry, HasItsAnswer, told_nothing, told_other, told_own, told_then, taken_then}
 use Rattle.tlsf_heap.specs.Calls as heap
-use Rattle.tlsf_heap.specs.Laws.{IsLive}
-use Rattle.tlsf_heap.proofs.lemmas.laws.Live.{known}
-use Rattle.tlsf_calls.specs.declared.reply.Reply.TheVariants.{Took as Taken}
-use Rattle.tlsf_calls.specs.declared.took.Took.{Took}
-use Rattle.tlsf_crew.proofs.lemmas.race_laws.SameDrains.{own_post, ran_take, take_entry}
 use Rattle.tlsf_crew.proofs.lemmas.histories.LaneCalls.{of_other, of_same}
 use Rattle.std.proofs.Math.Seq.{take-append_seam}
-use Rattle.tlsf_crew.proofs.lemmas.histories.JoinedEntries.{HasItsAnswer, told_nothing, told_other, told_own, told_then, taken_then}
 use Rattle.tlsf_yard_laws.proofs.LivePosts.{SparesIn, entries_live}
 use Rattle.tlsf_yard_laws.proofs.RaceRecords.{Away, each_answered, heap_between, posts_match, takes_none_of}
+use Rattle.tlsf_yard_laws.proofs.Told.{no_name}
 use Rattle.tlsf_yard_laws.specs.Posts.{GiveBackOnce, GivesBack, NoPostIsStale}
 
 -- ---- the entry that tells what stands in a list
@@ -128,10 +123,6 @@ poster carrier w v scripts made records race empty j b from t j_in stands =
 abbrev LetGo : List (Option Name) → Entry → Name → Type 0
 LetGo made e name = ((target : Target) × (e.call ≡ Release target) × (name_of made target ≡ Some name) × (e.reply ≡ Freed)) ⊎ ((from : ℕ) × (t : Took) × (e.call ≡ Take from) × (e.reply ≡ Taken t) × (t.name ≡ name))
 
-not_written : (o : Option Name) (f : Name → heap.Call) (own : Name) → ((name : Name) → f name ≢ heap.Release own) → option_map f o ≡ Some (heap.Release own) → ⊥
-not_written None f own ne e = cc
-not_written (Some name) f own ne e = let q : f name ≡ heap.Release own = cc in ne name q
-
 own_name : (j : ℕ) (o : Option Name) (own : Name) → option_map heap.Release (name_on_heap j o) ≡ Some (heap.Release own) → o ≡ Some own
 own_name j None own e = cc
 own_name j (Some name) own e = elim (cases_eq name.heap j) [
@@ -150,9 +141,9 @@ let_go made e (Release target) reply own c r is told = cc
 let_go made e (Take from) (Taken t) own c r is told = let q : t.name ≡ own = cc in inr (from, t, c, r, q)
 let_go made e (Take from) reply own c r is told = cc
 let_go made e (Allocate len) reply own c r is told = cc
-let_go made e (Write target from bytes) reply own c r is told = absurd (not_written (meant made target reply) (λ name. heap.Write name from (bytes_of bytes)) own (λ name q. cc) is)
-let_go made e (Read target from n) reply own c r is told = absurd (not_written (meant made target reply) (λ name. heap.Read name from n) own (λ name q. cc) is)
-let_go made e (Resize target len) reply own c r is told = absurd (not_written (meant made target reply) (λ name. heap.Resize name len) own (λ name q. cc) is)
+let_go made e (Write target from bytes) reply own c r is told = absurd (no_name _ (λ name. heap.Write name from (bytes_of bytes)) (heap.Release own) (λ name q. cc) is)
+let_go made e (Read target from n) reply own c r is told = absurd (no_name _ (λ name. heap.Read name from n) (heap.Release own) (λ name q. cc) is)
+let_go made e (Resize target len) reply own c r is told = absurd (no_name _ (λ name. heap.Resize name len) (heap.Release own) (λ name q. cc) is)
 let_go made e (Drain most) reply own c r is told = cc
 
 -- a later stretch has more posts

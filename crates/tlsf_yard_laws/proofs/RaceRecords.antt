@@ -1,8 +1,6 @@
 -- The facts that the records of a race tell, whatever carries its posts.
-use Rattle.tlsf_yard_laws.proofs.Common.{◌==◌, false, [], ◌∷◌, ◌++◌, ◌≡◌, ◌≢◌, ℕ, ◌<◌, ◌≤◌, List, Option, None, All, length, refl, sym, ap, ◌∙◌, subst, inl, inr, arith, append-nil, cases_eq, IsLevel, IsLawful, Name, Post, Call, Allocate, Release, Write, Read, Resize, Take, Drain, Stranger, Entry, Reply, Drained, Refused, record_of, RunsThrough, RunsTo, answers_on, calls_on, post_of_take, posts_made, posts_taken, World, Replayed, called, draining, heap_in, taking, Carrier, IsRaceOver, OverLanes, OverQueues}
-use Rattle.std.proofs.lemmas.Bool.Decides.{nat_tests}
+use Rattle.tlsf_yard_laws.proofs.Common.{◌==◌, false, [], ◌∷◌, ◌++◌, ◌≡◌, ◌≢◌, ℕ, ◌<◌, ◌≤◌, List, Option, None, All, length, refl, sym, ap, ◌∙◌, subst, inl, inr, arith, append-nil, cases_eq, IsLevel, IsLawful, Name, Post, Call, Take, Drain, Stranger, Entry, Reply, Drained, Refused, record_of, RunsThrough, RunsTo, answers_on, calls_on, post_of_take, posts_made, posts_taken, World, Replayed, called, draining, heap_in, taking, Carrier, IsRaceOver, OverLanes, OverQueues, nat_tests, Taken, drain_apart, nothing_before, drain_makes, drain_told, called_knows, called_told, runs_through, HasItsAnswer, told_nothing, taken_then, taking_far, taking_own}
 use Rattle.tlsf_post.specs.Rule.{posts_of}
-use Rattle.tlsf_calls.specs.declared.reply.Reply.TheVariants.{Took as Taken}
 use Rattle.tlsf_crew.specs.model.QueueProgress.{MayTellQueue, MayTellQueueAll, IsFromOther, with_reply, with_takes}
 use Rattle.tlsf_crew.specs.race_laws.Alone.{TakesNoPost}
 use Rattle.tlsf_crew.specs.scripts.Scripts.{last_call, script_of}
@@ -11,13 +9,7 @@ use Rattle.tlsf_crew.proofs.lemmas.race_laws.QueueRecords.{queue_race_answered, 
 use Rattle.tlsf_crew.proofs.lemmas.races.QueueTakes.{none_of_others, takes_of_posts}
 use Rattle.tlsf_crew.proofs.lemmas.race_laws.AloneRuns.{takes_none}
 use Rattle.tlsf_crew.proofs.lemmas.race_laws.RecordHistory.{race_answered, race_runs}
-use Rattle.tlsf_crew.proofs.lemmas.race_laws.SameDrains.{drain_apart, nothing_before}
 use Rattle.tlsf_crew.proofs.lemmas.scripts.ScriptRuns.{tell_more}
-use Rattle.tlsf_crew.proofs.lemmas.histories.DrainEntries.{drain_makes, drain_told}
-use Rattle.tlsf_crew.proofs.lemmas.histories.AllEntries.{called_knows, called_told}
-use Rattle.tlsf_crew.proofs.lemmas.histories.Fronts.{runs_through}
-use Rattle.tlsf_crew.proofs.lemmas.histories.JoinedEntries.{HasItsAnswer, told_nothing, taken_then}
-use Rattle.tlsf_crew.proofs.lemmas.model.OneEvent.{taking_far, taking_own}
 
 -- ---- no worker takes what it posted itself, or what one that isn't there did
 
@@ -65,13 +57,9 @@ take_away sli n at k from s t far m none =
     (told_nothing (λ e. post_of_take k e.call e.reply) at e (refused_take m.0 at k from e (λ ne. let le = far ne in omega (arith, le, m.1.0)) refl))
 
 one_away : (sli : ℕ) (n at k : ℕ) (s t : Progress) (call : Call) → at < n → Away n at k → MayTell sli n at s call t → posts_taken k at s.entries ≡ [] → posts_taken k at t.entries ≡ []
-one_away sli n at k s t (Allocate len) at_in far m none = quiet_away sli n at k s t (Allocate len) at_in tt m none
-one_away sli n at k s t (Release target) at_in far m none = quiet_away sli n at k s t (Release target) at_in tt m none
-one_away sli n at k s t (Write target from bytes) at_in far m none = quiet_away sli n at k s t (Write target from bytes) at_in tt m none
-one_away sli n at k s t (Read target from count) at_in far m none = quiet_away sli n at k s t (Read target from count) at_in tt m none
-one_away sli n at k s t (Resize target len) at_in far m none = quiet_away sli n at k s t (Resize target len) at_in tt m none
 one_away sli n at k s t (Take from) at_in far m none = take_away sli n at k from s t far m none
 one_away sli n at k s t (Drain most) at_in far m none = drain_away sli n at k most s t at_in far m none
+one_away sli n at k s t call at_in far m none = quiet_away sli n at k s t call at_in tt m none
 
 all_away : (sli : ℕ) (n at k : ℕ) (s t : Progress) (calls : List Call) → at < n → Away n at k → MayTellAll sli n at s calls t → posts_taken k at s.entries ≡ [] → posts_taken k at t.entries ≡ []
 all_away sli n at k s t [] at_in far m none = ap (λ (t : Progress). posts_taken k at t.entries) m ∙ none
@@ -87,15 +75,11 @@ queue_drain_away n at k most s t posts far others is none =
     behind_none k at (with_takes at s posts).entries (e ∷ []) t.entries (ap (λ (t : Progress). t.entries) is) taken (told_nothing (λ e. post_of_take k e.call e.reply) at e refl)
 
 queue_one_away : (sli : ℕ) (n at k : ℕ) (s t : Progress) (call : Call) → at < n → Away n at k → MayTellQueue sli n at s call t → posts_taken k at s.entries ≡ [] → posts_taken k at t.entries ≡ []
-queue_one_away sli n at k s t (Allocate len) at_in far m none = quiet_away sli n at k s t (Allocate len) at_in tt m none
-queue_one_away sli n at k s t (Release target) at_in far m none = quiet_away sli n at k s t (Release target) at_in tt m none
-queue_one_away sli n at k s t (Write target from bytes) at_in far m none = quiet_away sli n at k s t (Write target from bytes) at_in tt m none
-queue_one_away sli n at k s t (Read target from count) at_in far m none = quiet_away sli n at k s t (Read target from count) at_in tt m none
-queue_one_away sli n at k s t (Resize target len) at_in far m none = quiet_away sli n at k s t (Resize target len) at_in tt m none
 queue_one_away sli n at k s t (Take from) at_in far m none =
     let e : Entry = record { worker = at; call = Take from; reply = Refused Stranger } in
     behind_none k at s.entries (e ∷ []) t.entries (ap (λ (t : Progress). t.entries) m) none (told_nothing (λ e. post_of_take k e.call e.reply) at e refl)
 queue_one_away sli n at k s t (Drain most) at_in far m none = queue_drain_away n at k most s t m.0 far m.1 m.3 none
+queue_one_away sli n at k s t call at_in far m none = quiet_away sli n at k s t call at_in tt m none
 
 queue_all_away : (sli : ℕ) (n at k : ℕ) (s t : Progress) (calls : List Call) → at < n → Away n at k → MayTellQueueAll sli n at s calls t → posts_taken k at s.entries ≡ [] → posts_taken k at t.entries ≡ []
 queue_all_away sli n at k s t [] at_in far m none = ap (λ (t : Progress). posts_taken k at t.entries) m ∙ none

@@ -1,18 +1,8 @@
 -- Entry by entry: what is live in a heap is held by the programs, or its name waits in a lane. So each request finds room.
-use Rattle.tlsf_yard_laws.proofs.Common.{◌==◌, ◌≡◌, ◌≢◌, ℕ, suc, ◌+◌, ◌*◌, ◌<◌, ◌≤◌, ◌⊎◌, Bool, true, false, cond, eqb, List, [], ◌∷◌, ◌++◌, length, Option, Some, None, Result, Ok, Err, refl, sym, ap, ◌∙◌, subst, inl, inr, arith, length-append, eq-eqb, append-nil, ⊤, AllByRecursion, cons_option, option_map, cases_eq, false≢true, ne_eqb, length-map, IsLevel, most_words, HeapState, want, Name, Post, mixed_words, IsModest, IsServed, bytes_there, is_same, Inventory, inventory_after, with_length, bytes_of, RunsTo, answer_told, answers_on, call_on_own, calls_on, handed_on, meant, name_on_heap, post_of_release, post_of_take, posts_made, posts_taken, taken_name, Entry, Call, Allocate, Release, Write, Read, Resize, Take, Drain, Target, Reply, AreSparing, IsSparing, unreleased_after, with_call, without_post}
-use Rattle.tlsf_heap.specs.GoodFit.{Site}
+use Rattle.tlsf_yard_laws.proofs.Common.{◌==◌, ◌≡◌, ◌≢◌, ℕ, suc, ◌+◌, ◌*◌, ◌<◌, ◌≤◌, ◌⊎◌, Bool, true, false, cond, eqb, List, [], ◌∷◌, ◌++◌, length, Option, Some, None, Result, Ok, Err, refl, sym, ap, ◌∙◌, subst, inl, inr, arith, length-append, eq-eqb, append-nil, ⊤, AllByRecursion, cons_option, option_map, cases_eq, false≢true, ne_eqb, length-map, IsLevel, most_words, HeapState, want, Name, Post, mixed_words, IsModest, IsServed, bytes_there, is_same, Inventory, inventory_after, with_length, bytes_of, RunsTo, answer_told, answers_on, call_on_own, calls_on, handed_on, meant, post_of_release, post_of_take, posts_made, posts_taken, Entry, Call, Allocate, Release, Write, Read, Resize, Take, Drain, Target, Reply, AreSparing, IsSparing, unreleased_after, with_call, without_post, Site, Refusal, Foreign, Worn, all_append, takes, live_count, same_is, same_self, Agrees, agrees_call, live_agrees, lookup, lookup_without, Taken, told_other, told_own, told_then}
 use Rattle.tlsf_heap.specs.Calls as heap
-use Rattle.tlsf_heap.specs.declared.refusal.Refusal.{Refusal}
-use Rattle.tlsf_heap.specs.declared.refusal.Refusal.TheVariants.{Foreign, Worn}
-use Rattle.tlsf_heap.proofs.lemmas.blocks.Lawful.{all_append}
-use Rattle.tlsf_heap.proofs.lemmas.calls.Outcomes.{takes}
-use Rattle.tlsf_pool.specs.laws.Room.{live_count}
-use Rattle.tlsf_pool.proofs.lemmas.laws.Names.{same_is, same_self}
-use Rattle.tlsf_pool.proofs.lemmas.laws.Inventories.{Agrees, agrees_call, live_agrees, lookup, lookup_without}
 use Rattle.tlsf_pool.proofs.lemmas.laws.ModestCalls.{InMixed, is_served, kept, tick_kept}
-use Rattle.tlsf_calls.specs.declared.reply.Reply.TheVariants.{Took as Taken}
-use Rattle.tlsf_crew.proofs.lemmas.histories.JoinedEntries.{told_other, told_own, told_then}
-use Rattle.tlsf_yard_laws.proofs.Told.{noted_same, served_on}
+use Rattle.tlsf_yard_laws.proofs.Told.{no_name, noted_same, served_on}
 use Rattle.tlsf_yard_laws.proofs.Few.{IsAmong, among_left, among_right, few, in_lanes, lane_names, lanes_few, names_of, posted, still_among}
 
 -- ---- what covers a name
@@ -38,30 +28,23 @@ stay_covered j n u v lanes later name held waits c = elim c [
 refused_gone : (h : HeapState) (name : Name) (l : Inventory) (why : Refusal) → Agrees h l → h.tick < heap.last_tick → (heap.released h name).answer ≡ Err why → lookup name l ≡ None
 refused_gone h name l why agrees fresh e = agrees.found name ∙ ap (option_map length) (gone (eqb name.heap h.id) (heap.named name h.blocks) e)
   where
-    done_refused : ◌≡◌ {A = Result (Unit {0}) Refusal} (Ok tt) (Err why) → ⊥
-    done_refused e = cc
-
     gone : (c : Bool) (o : Option Site) → (cond c (heap.released_at h o) (heap.refused h Foreign)).answer ≡ Err why → cond c (bytes_there o) None ≡ None
     gone false o e = refl
     gone true None e = refl
-    gone true (Some s) e = absurd (done_refused (sym (ap (λ (c : Bool). (cond c (heap.refused h Worn) (takes h s)).answer) (ne_eqb h.tick heap.last_tick (λ q. omega (arith, q, fresh)))) ∙ e))
+    gone true (Some s) e =
+        let q : ◌≡◌ {A = Result (Unit {0}) Refusal} (Ok tt) (Err why) = sym (ap (λ (c : Bool). (cond c (heap.refused h Worn) (takes h s)).answer) (ne_eqb h.tick heap.last_tick (λ q. omega (arith, q, fresh)))) ∙ e in
+        absurd cc
 
 -- after the release of a name, what is live is another, and was live before
 other_name : (h : HeapState) (m name : Name) (l : Inventory) (len : ℕ) (r : Result (Unit {0}) Refusal) → Agrees h l → h.tick < heap.last_tick → (heap.released h m).answer ≡ r
     → lookup name (inventory_after l (heap.Release m) (heap.Released r)) ≡ Some len → (m ≢ name) × (lookup name l ≡ Some len)
 other_name h m name l len (Ok done) agrees fresh is found = at (is_same m name) refl (sym (lookup_without m name l) ∙ found)
   where
-    nothing : ◌≡◌ {A = Option ℕ} None (Some len) → ⊥
-    nothing e = cc
-
     at : (c : Bool) → is_same m name ≡ c → cond c None (lookup name l) ≡ Some len → (m ≢ name) × (lookup name l ≡ Some len)
-    at true same e = absurd (nothing e)
+    at true same e = let q : ◌≡◌ {A = Option ℕ} None (Some len) = e in absurd cc
     at false same e = ((λ q. false≢true (sym same ∙ subst (λ (x : Name). is_same m x ≡ true) q (same_self m))), e)
 other_name h m name l len (Err why) agrees fresh is found =
-    ((λ q. nothing (sym (refused_gone h m l why agrees fresh is) ∙ (ap (λ (x : Name). lookup x l) q ∙ found))), found)
-  where
-    nothing : ◌≡◌ {A = Option ℕ} None (Some len) → ⊥
-    nothing e = cc
+    ((λ q. let none : ◌≡◌ {A = Option ℕ} None (Some len) = sym (refused_gone h m l why agrees fresh is) ∙ (ap (λ (x : Name). lookup x l) q ∙ found) in cc), found)
 
 -- an inventory keeps the other names
 still_held : (m name : Name) (u : Inventory) (r : Result (Unit {0}) Refusal) → m ≢ name → IsAmong name (names_of u) → IsAmong name (names_of (inventory_after u (heap.Release m) (heap.Released r)))
@@ -110,41 +93,26 @@ call_covers : (sli : ℕ) (j n : ℕ) (h : HeapState) (l u : Inventory) (lanes l
     → Covers j n (inventory_after l c (heap.answered sli h c).0) (inventory_after u c (heap.answered sli h c).0) later
 call_covers sli j n h l u lanes later (heap.Allocate m) agrees fresh covers leaves name len found = at (heap.allocated sli h m).answer found
   where
-    differs : ◌≡◌ {A = Option heap.Call} (Some (heap.Allocate m)) (Some (heap.Release name)) → ⊥
-    differs e = cc
-
     new : (made : Name) (c : Bool) → is_same made name ≡ c → cond c (Some m) (lookup name l) ≡ Some len → IsCovered j n ((made, m) ∷ u) later name
     new made true same e = inl (inl (same_is made name same))
-    new made false same e = stay_covered j n u ((made, m) ∷ u) lanes later name (λ a. inr a) (still_waits j lanes later (heap.Allocate m) name differs leaves) (covers name len e)
+    new made false same e = stay_covered j n u ((made, m) ∷ u) lanes later name (λ a. inr a) (still_waits j lanes later (heap.Allocate m) name (λ e. cc) leaves) (covers name len e)
 
     at : (r : Result Name Refusal) → lookup name (inventory_after l (heap.Allocate m) (heap.Allocated r)) ≡ Some len → IsCovered j n (inventory_after u (heap.Allocate m) (heap.Allocated r)) later name
     at (Ok made) e = new made (is_same made name) refl e
-    at (Err why) e = stay_covered j n u u lanes later name (λ a. a) (still_waits j lanes later (heap.Allocate m) name differs leaves) (covers name len e)
+    at (Err why) e = stay_covered j n u u lanes later name (λ a. a) (still_waits j lanes later (heap.Allocate m) name (λ e. cc) leaves) (covers name len e)
 call_covers sli j n h l u lanes later (heap.Release m) agrees fresh covers leaves name len found =
     let r = (heap.released h m).answer in
     let other = other_name h m name l len r agrees fresh refl found in
     stay_covered j n u (inventory_after u (heap.Release m) (heap.Released r)) lanes later name (still_held m name u r other.0)
     (still_waits j lanes later (heap.Release m) name (λ e. let same : m ≡ name = cc in other.0 same) leaves) (covers name len other.1)
-call_covers sli j n h l u lanes later (heap.Write m at bytes) agrees fresh covers leaves name len found =
-    stay_covered j n u u lanes later name (λ a. a) (still_waits j lanes later (heap.Write m at bytes) name differs leaves) (covers name len found)
-  where
-    differs : ◌≡◌ {A = Option heap.Call} (Some (heap.Write m at bytes)) (Some (heap.Release name)) → ⊥
-    differs e = cc
 call_covers sli j n h l u lanes later (heap.Resize m k) agrees fresh covers leaves name len found = on (heap.resized h m k).answer found
   where
-    differs : ◌≡◌ {A = Option heap.Call} (Some (heap.Resize m k)) (Some (heap.Release name)) → ⊥
-    differs e = cc
-
     on : (r : Result (Unit {0}) Refusal) → lookup name (inventory_after l (heap.Resize m k) (heap.Resized r)) ≡ Some len → IsCovered j n (inventory_after u (heap.Resize m k) (heap.Resized r)) later name
     on (Ok done) e =
         let old = resize_finds m name k len l e in
-        stay_covered j n u (with_length u m k) lanes later name (resize_keeps m name k u) (still_waits j lanes later (heap.Resize m k) name differs leaves) (covers name old.0 old.1)
-    on (Err why) e = stay_covered j n u u lanes later name (λ a. a) (still_waits j lanes later (heap.Resize m k) name differs leaves) (covers name len e)
-call_covers sli j n h l u lanes later (heap.Read m at k) agrees fresh covers leaves name len found =
-    stay_covered j n u u lanes later name (λ a. a) (still_waits j lanes later (heap.Read m at k) name differs leaves) (covers name len found)
-  where
-    differs : ◌≡◌ {A = Option heap.Call} (Some (heap.Read m at k)) (Some (heap.Release name)) → ⊥
-    differs e = cc
+        stay_covered j n u (with_length u m k) lanes later name (resize_keeps m name k u) (still_waits j lanes later (heap.Resize m k) name (λ e. cc) leaves) (covers name old.0 old.1)
+    on (Err why) e = stay_covered j n u u lanes later name (λ a. a) (still_waits j lanes later (heap.Resize m k) name (λ e. cc) leaves) (covers name len e)
+call_covers sli j n h l u lanes later c agrees fresh covers leaves name len found = stay_covered j n u u lanes later name (λ a. a) (still_waits j lanes later c name (λ e. cc) leaves) (covers name len found)
 
 -- ---- what an entry of the heap's own worker tells
 
@@ -163,31 +131,11 @@ take_asks made i at call reply p e = absurd (no_post p e)
 -- an entry that tells an allocate is one
 pub allocate_asks : (made : List (Option Name)) (at : ℕ) (call : Call) (reply : Reply) (m : ℕ) → call_on_own made at call reply ≡ Some (heap.Allocate m) → call ≡ Allocate m
 allocate_asks made at (Allocate len) reply m e = let same : len ≡ m = cc in ap Allocate same
-allocate_asks made at (Release target) reply m e = absurd (on _ e)
-  where
-    on : (o : Option Name) → option_map heap.Release o ≡ Some (heap.Allocate m) → ⊥
-    on None e = cc
-    on (Some name) e = cc
-allocate_asks made at (Write target from bytes) reply m e = absurd (on (bytes_of bytes) _ e)
-  where
-    on : (xs : List ℕ) (o : Option Name) → option_map (λ name. heap.Write name from xs) o ≡ Some (heap.Allocate m) → ⊥
-    on xs None e = cc
-    on xs (Some name) e = cc
-allocate_asks made at (Read target from n) reply m e = absurd (on _ e)
-  where
-    on : (o : Option Name) → option_map (λ name. heap.Read name from n) o ≡ Some (heap.Allocate m) → ⊥
-    on None e = cc
-    on (Some name) e = cc
-allocate_asks made at (Resize target len) reply m e = absurd (on _ e)
-  where
-    on : (o : Option Name) → option_map (λ name. heap.Resize name len) o ≡ Some (heap.Allocate m) → ⊥
-    on None e = cc
-    on (Some name) e = cc
-allocate_asks made at (Take from) reply m e = absurd (on _ e)
-  where
-    on : (o : Option Name) → option_map heap.Release o ≡ Some (heap.Allocate m) → ⊥
-    on None e = cc
-    on (Some name) e = cc
+allocate_asks made at (Release target) reply m e = absurd (no_name _ heap.Release (heap.Allocate m) (λ name q. cc) e)
+allocate_asks made at (Write target from bytes) reply m e = absurd (no_name _ (λ name. heap.Write name from (bytes_of bytes)) (heap.Allocate m) (λ name q. cc) e)
+allocate_asks made at (Read target from n) reply m e = absurd (no_name _ (λ name. heap.Read name from n) (heap.Allocate m) (λ name q. cc) e)
+allocate_asks made at (Resize target len) reply m e = absurd (no_name _ (λ name. heap.Resize name len) (heap.Allocate m) (λ name q. cc) e)
+allocate_asks made at (Take from) reply m e = absurd (no_name _ heap.Release (heap.Allocate m) (λ name q. cc) e)
 allocate_asks made at (Drain most) reply m e = absurd cc
 
 -- and one that tells a resize is one
@@ -198,28 +146,11 @@ resize_asks made at (Resize target len) reply name m e = (target, on (meant made
     on : (o : Option Name) → option_map (λ name. heap.Resize name len) o ≡ Some (heap.Resize name m) → ◌≡◌ {A = Call} (Resize target len) (Resize target m)
     on None e = cc
     on (Some own) e = let same : len ≡ m = cc in ap (λ (n : ℕ). Resize target n) same
-resize_asks made at (Allocate len) reply name m e = absurd cc
-resize_asks made at (Release target) reply name m e = absurd (on (name_on_heap at (meant made target reply)) e)
-  where
-    on : (o : Option Name) → option_map heap.Release o ≡ Some (heap.Resize name m) → ⊥
-    on None e = cc
-    on (Some own) e = cc
-resize_asks made at (Write target from bytes) reply name m e = absurd (on (bytes_of bytes) (meant made target reply) e)
-  where
-    on : (xs : List ℕ) (o : Option Name) → option_map (λ name. heap.Write name from xs) o ≡ Some (heap.Resize name m) → ⊥
-    on xs None e = cc
-    on xs (Some own) e = cc
-resize_asks made at (Read target from n) reply name m e = absurd (on (meant made target reply) e)
-  where
-    on : (o : Option Name) → option_map (λ name. heap.Read name from n) o ≡ Some (heap.Resize name m) → ⊥
-    on None e = cc
-    on (Some own) e = cc
-resize_asks made at (Take from) reply name m e = absurd (on (taken_name reply) e)
-  where
-    on : (o : Option Name) → option_map heap.Release o ≡ Some (heap.Resize name m) → ⊥
-    on None e = cc
-    on (Some own) e = cc
-resize_asks made at (Drain most) reply name m e = absurd cc
+resize_asks made at (Release target) reply name m e = absurd (no_name _ heap.Release (heap.Resize name m) (λ other q. cc) e)
+resize_asks made at (Write target from bytes) reply name m e = absurd (no_name _ (λ name. heap.Write name from (bytes_of bytes)) (heap.Resize name m) (λ other q. cc) e)
+resize_asks made at (Read target from n) reply name m e = absurd (no_name _ (λ name. heap.Read name from n) (heap.Resize name m) (λ other q. cc) e)
+resize_asks made at (Take from) reply name m e = absurd (no_name _ heap.Release (heap.Resize name m) (λ other q. cc) e)
+resize_asks made at call reply name m e = absurd cc
 
 -- ---- one entry after another
 

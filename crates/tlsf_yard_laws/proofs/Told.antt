@@ -1,15 +1,7 @@
 -- Answers as they are handed on tell the same of what is held and of bytes.
-use Rattle.tlsf_yard_laws.proofs.Common.{◌≡◌, ℕ, ◌+◌, ◌<◌, ◌≤◌, List, [], ◌∷◌, length, map, None, Ok, Err, refl, sym, ap, ◌∙◌, subst, arith, AllByRecursion, IsLevel, most_words, HeapState, want, IsRegion, Name, mixed_words, AreModest, HasRoomFor, IsServed, Inventory, inventory_after, Contents, contents, after, after_all, World, heap_in, replies, RunsTo, calls_on, answers_on, handed_on, Carrier}
+use Rattle.tlsf_yard_laws.proofs.Common.{◌≡◌, ◌≢◌, ℕ, ◌+◌, ◌<◌, ◌≤◌, List, Option, Some, option_map, [], ◌∷◌, length, map, None, Ok, Err, refl, sym, ap, ◌∙◌, subst, arith, AllByRecursion, IsLevel, most_words, HeapState, want, IsRegion, Name, mixed_words, AreModest, HasRoomFor, IsServed, Inventory, inventory_after, Contents, contents, after, after_all, World, heap_in, replies, RunsTo, calls_on, answers_on, handed_on, Carrier, live_count, held_after, held_after_all, serves, suffices, told_new, Event, replies_tell, runs_then, NewHasNoPast, RaceAddsToPast, RaceHoldsWhatIsLive, RaceKeepsBytes, RaceMixedSizesServe, RaceMixedSizesSuffice, ReplayAddsToPast}
 use Rattle.tlsf_heap.specs.Calls.{Call, Read, Answer, Got, last_tick, opened, run}
-use Rattle.tlsf_pool.specs.laws.Room.{live_count}
-use Rattle.tlsf_pool.specs.laws.Held.{held_after, held_after_all}
 use Rattle.tlsf_pool.proofs.lemmas.laws.Held.{holds}
-use Rattle.tlsf_pool.proofs.lemmas.laws.ModestCalls.{serves, suffices}
-use Rattle.tlsf_pool.proofs.lemmas.laws.Looks.{told_new}
-use Rattle.tlsf_calls.specs.declared.event.Event.{Event}
-use Rattle.tlsf_crew.proofs.lemmas.histories.AllEntries.{replies_tell}
-use Rattle.tlsf_crew.proofs.lemmas.histories.JoinedEntries.{runs_then}
-use Rattle.tlsf_yard_laws.specs.Races.{NewHasNoPast, RaceAddsToPast, RaceHoldsWhatIsLive, RaceKeepsBytes, RaceMixedSizesServe, RaceMixedSizesSuffice, ReplayAddsToPast}
 use Rattle.tlsf_yard_laws.proofs.RaceRecords.{heap_runs, heaps_stay}
 use Rattle.tlsf_yard_laws.specs.Yards.{IsNew, YardHoldsWhatIsLive, YardKeepsBytes, YardMixedSizesServe, YardMixedSizesSuffice}
 
@@ -34,9 +26,10 @@ room_same : (answer : Answer) → HasRoomFor answer → HasRoomFor (handed_on an
 room_same (Got (Ok bytes)) room = λ e. cc
 room_same answer room = room
 
-all_room : (answers : List Answer) → AllByRecursion HasRoomFor answers → AllByRecursion HasRoomFor (map handed_on answers)
-all_room [] all = tt
-all_room (answer ∷ answers) all = (room_same answer all.0, all_room answers all.1)
+-- what holds of answers holds of them as they are handed on
+all_handed : (P : Answer → Type 0) → ((answer : Answer) → P answer → P (handed_on answer)) → (answers : List Answer) → AllByRecursion P answers → AllByRecursion P (map handed_on answers)
+all_handed P same [] all = tt
+all_handed P same (answer ∷ answers) all = (same answer all.0, all_handed P same answers all.1)
 
 after_same : (bytes : Contents) (call : Call) (answer : Answer) → after bytes call (handed_on answer) ≡ after bytes call answer
 after_same bytes call (Got (Err why)) = refl
@@ -59,9 +52,10 @@ noted_same l call (Got (Err why)) = refl
 noted_same l (Read name at n) (Got (Ok bytes)) = refl
 noted_same l call answer = refl
 
-all_served_on : (answers : List Answer) → AllByRecursion IsServed answers → AllByRecursion IsServed (map handed_on answers)
-all_served_on [] all = tt
-all_served_on (answer ∷ answers) all = (served_on answer all.0, all_served_on answers all.1)
+-- none of the calls by a name that a function gives is this one
+pub no_name : (o : Option Name) (f : Name → Call) (call : Call) → ((name : Name) → f name ≢ call) → option_map f o ≡ Some call → ⊥
+no_name None f call other e = cc
+no_name (Some name) f call other e = let q : f name ≡ call = cc in other name q
 
 -- ---- what a heap that was new once was asked, and what it answered
 
@@ -70,14 +64,14 @@ pub past_suffices : {sli : ℕ} (level : IsLevel sli) (j words first most len : 
 past_suffices {sli} level j words first most len calls answers g runs region class enough within =
     let own : List Answer = (run sli (opened j words first) calls).0 in
     subst (AllByRecursion HasRoomFor) runs.told
-    (all_room own (suffices sli level j words first most len calls region class enough (modest most len 0 calls own (subst (AreModest most len 0 calls) (sym runs.told) within))))
+    (all_handed HasRoomFor room_same own (suffices sli level j words first most len calls region class enough (modest most len 0 calls own (subst (AreModest most len 0 calls) (sym runs.told) within))))
 
 pub past_serves : {sli : ℕ} (level : IsLevel sli) (j words first most len : ℕ) (calls : List Call) (answers : List Answer) (g : HeapState) → RunsTo sli (opened j words first) calls answers g
     → IsRegion sli words → want len ≤ most_words sli → mixed_words sli most len ≤ words → AreModest most len 0 calls answers → first + length calls < last_tick → AllByRecursion IsServed answers
 past_serves {sli} level j words first most len calls answers g runs region class enough within fresh =
     let own : List Answer = (run sli (opened j words first) calls).0 in
     subst (AllByRecursion IsServed) runs.told
-    (all_served_on own (serves sli level j words first most len calls region class enough (modest most len 0 calls own (subst (AreModest most len 0 calls) (sym runs.told) within)) fresh))
+    (all_handed IsServed served_on own (serves sli level j words first most len calls region class enough (modest most len 0 calls own (subst (AreModest most len 0 calls) (sym runs.told) within)) fresh))
 
 pub past_holds : {sli : ℕ} (j words first : ℕ) (calls : List Call) (answers : List Answer) (g : HeapState) → RunsTo sli (opened j words first) calls answers g → 4 ≤ words
     → live_count g ≡ held_after_all 0 calls answers

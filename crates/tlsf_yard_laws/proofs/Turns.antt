@@ -1,15 +1,6 @@
 -- The entries of a list of events lead, one after another, from the first world to the last.
-use Rattle.tlsf_yard_laws.proofs.Common.{zero, suc, [], ◌∷◌, ◌++◌, ◌≡◌, ◌≢◌, ℕ, ◌+◌, ◌-◌, ◌*◌, ◌<◌, ◌≤◌, List, Option, Some, None, length, All, refl, sym, ap, ◌∙◌, arith, inl, inr, subst, append_assoc, append-nil, length-append, AllByRecursion, fold, cases_lt, All-tail, IsLevel, HeapState, want, IsLawful, Name, Post, mixed_words, IsServed, World, Replayed, answered, begun, called, heap_in, replies, AreTakes, RunsTo, TellsCall, answer_told, answers_on, call_on_own, calls_on, post_of_release, post_of_take, posts_made, posts_taken, Entry, Call, Allocate, Release, Write, Read, Resize, Take, Drain, Target, Drained, Refused, Stranger, SharedMixedSizesServe}
-use Rattle.tlsf_heap.proofs.lemmas.calls.Outcomes.{lawful_run}
-use Rattle.tlsf_pool.proofs.lemmas.laws.Inventories.{Agrees, new_agrees}
-use Rattle.tlsf_pool.proofs.lemmas.laws.ModestCalls.{InMixed, opens}
+use Rattle.tlsf_yard_laws.proofs.Common.{zero, suc, [], ◌∷◌, ◌++◌, ◌≡◌, ◌≢◌, ℕ, ◌+◌, ◌-◌, ◌*◌, ◌<◌, ◌≤◌, List, Option, Some, None, length, All, refl, sym, ap, ◌∙◌, arith, inl, inr, subst, append_assoc, append-nil, length-append, AllByRecursion, fold, cases_lt, All-tail, IsLevel, HeapState, want, IsLawful, Name, Post, mixed_words, IsServed, World, Replayed, answered, begun, called, heap_in, replies, AreTakes, RunsTo, TellsCall, answer_told, answers_on, call_on_own, calls_on, post_of_release, post_of_take, posts_made, posts_taken, Entry, Call, Release, Drain, Target, Drained, Refused, Stranger, SharedMixedSizesServe, lawful_run, Agrees, new_agrees, InMixed, opens, Event, called_knows, called_told, more_knows, ToldOnce, after_far, after_near, runs_through, HasItsAnswer, told_nothing, told_other, told_then}
 use Rattle.tlsf_crew.specs.model.World.{after}
-use Rattle.tlsf_calls.specs.declared.event.Event.{Event}
-use Rattle.tlsf_crew.proofs.lemmas.histories.AllEntries.{called_knows, called_told, more_knows}
-use Rattle.tlsf_crew.proofs.lemmas.histories.DrainEntries.{ToldOnce}
-use Rattle.tlsf_crew.proofs.lemmas.model.EventSteps.{after_far, after_near}
-use Rattle.tlsf_crew.proofs.lemmas.histories.Fronts.{runs_through}
-use Rattle.tlsf_crew.proofs.lemmas.histories.JoinedEntries.{HasItsAnswer, told_nothing, told_other, told_then}
 use Rattle.tlsf_crew.proofs.lemmas.histories.OwnCalls.{Knows}
 use Rattle.tlsf_yard_laws.proofs.Shares.{AllLead, all_served}
 use Rattle.tlsf_yard_laws.proofs.ShortLanes.{AreShort, StayShort, called_short}
@@ -63,13 +54,10 @@ module _ (sli : ℕ) (level : IsLevel sli) (made : List (Option Name)) (n j capa
           run = t.first;
           posts = λ i. ap (λ l. lanes i ++ l) (quiet_one i x quiet.0) ∙ (append-nil (lanes i) ∙ split i);
           short = less;
-          near = λ p is. absurd (none_post p (sym quiet.0 ∙ is));
+          near = λ p is. let none : ◌≡◌ {A = Option Post} None (Some p) = sym quiet.0 ∙ is in absurd cc;
         },
         quiet_lead xs ys t.between g middle later t.lawful (All-tail (HasItsAnswer made n) x xs each) quiet.1 t.rest (λ i. refl) less lead,
       )
-    where
-      none_post : (p : Post) → ◌≡◌ {A = Option Post} None (Some p) → ⊥
-      none_post p e = cc
 
   -- ---- one event
 
@@ -144,14 +132,10 @@ module _ (sli : ℕ) (level : IsLevel sli) (made : List (Option Name)) (n j capa
   called_turn r at call at_in b known = on call (called_told made r at call (omega (arith, at_in, b.count)) known)
     where
       on : (call : Call) → ToldOnce made r (called r at call) (TellsCall at r.made call) → Turn r (called r at call)
-      on (Allocate len) t = quiet_turn r (called r at (Allocate len)) at (Allocate len) t b (called_short j r at (Allocate len)) (subst (AllByRecursion (IsQuiet made j)) (sym t.tells.whole) (refl, tt))
       on (Release target) t = release_turn r (called r at (Release target)) at target t at_in b (called_short j r at (Release target))
-      on (Write target from bytes) t = quiet_turn r (called r at (Write target from bytes)) at (Write target from bytes) t b (called_short j r at (Write target from bytes)) (subst (AllByRecursion (IsQuiet made j)) (sym t.tells.whole) (refl, tt))
-      on (Read target from k) t = quiet_turn r (called r at (Read target from k)) at (Read target from k) t b (called_short j r at (Read target from k)) (subst (AllByRecursion (IsQuiet made j)) (sym t.tells.whole) (refl, tt))
-      on (Resize target len) t = quiet_turn r (called r at (Resize target len)) at (Resize target len) t b (called_short j r at (Resize target len)) (subst (AllByRecursion (IsQuiet made j)) (sym t.tells.whole) (refl, tt))
-      on (Take from) t = quiet_turn r (called r at (Take from)) at (Take from) t b (called_short j r at (Take from)) (subst (AllByRecursion (IsQuiet made j)) (sym t.tells.whole) (refl, tt))
       on (Drain most) t = quiet_turn r (called r at (Drain most)) at (Drain most) t b (called_short j r at (Drain most))
           (subst (AllByRecursion (IsQuiet made j)) (sym t.tells.1.whole) (takes_quiet at 0 most t.tells.1.takes t.tells.1.are_takes))
+      on call t = quiet_turn r (called r at call) at call t b (called_short j r at call) (subst (AllByRecursion (IsQuiet made j)) (sym t.tells.whole) (refl, tt))
 
   -- an event of no worker
   far_turn : (r : Replayed sli) (e : Event) → n ≤ e.worker → Before r → Turn r (answered r e.worker e.call (record { reply = Refused Stranger; world = r.world }))
@@ -176,15 +160,12 @@ module _ (sli : ℕ) (level : IsLevel sli) (made : List (Option Name)) (n j capa
             posts = λ i. ap (λ l. r.world.waiting i j ++ l) (quiet_one i x quiet) ∙ (append-nil (r.world.waiting i j)
                 ∙ sym (ap (λ l. l ++ r.world.waiting i j) (told_other (λ e. post_of_take i e.call e.reply) j x away)));
             short = few r b;
-            near = λ p is. absurd (none_post p (sym quiet ∙ is));
+            near = λ p is. let none : ◌≡◌ {A = Option Post} None (Some p) = sym quiet ∙ is in absurd cc;
           },
           lead,
         );
       }
     where
-      none_post : (p : Post) → ◌≡◌ {A = Option Post} None (Some p) → ⊥
-      none_post p e = cc
-
       quiet_far : (at : ℕ) (call : Call) → post_of_release j made at call (Refused Stranger) ≡ None
       quiet_far at (Release target) = refl
       quiet_far at call = refl
@@ -231,9 +212,6 @@ shared_serves sli level w es j words first most len is short region class enough
     new : InMixed words (want len + 3) (heap_in w j)
     new = subst (InMixed words (want len + 3)) (sym is.new) (opens sli j words first (want len + 3) region)
 
-    nothing : (size : ℕ) → ◌≡◌ {A = Option ℕ} None (Some size) → ⊥
-    nothing size e = cc
-
     on : (n : ℕ) → length w.heaps ≡ n → AllByRecursion IsServed (answers_on j (replies w es).entries)
     on zero count = absurd (omega (arith, count, is.within))
     on (suc m) count =
@@ -241,5 +219,5 @@ shared_serves sli level w es j words first most len is short region class enough
         let few : length w.heaps - 1 ≡ m = omega (arith, count) in
         let large : mixed_words sli (most + m * w.capacity) len ≤ words = subst (λ (k : ℕ). mixed_words sli (most + k * w.capacity) len ≤ words) few enough in
         all_served sli level words most len class w.capacity j m (omega (arith, is.within, count)) large (replies w es).made (replies w es).entries (heap_in w j) [] [] (λ i. w.waiting i j)
-        (record { mixed = new; agrees = subst (λ (h : HeapState). Agrees h []) (sym is.new) (new_agrees j words first); covers = λ name size found. absurd (nothing size found) })
+        (record { mixed = new; agrees = subst (λ (h : HeapState). Agrees h []) (sym is.new) (new_agrees j words first); covers = λ name size found. let none : ◌≡◌ {A = Option ℕ} None (Some size) = found in absurd cc })
         short (replies_lead level w es (suc m) j (omega (arith, is.within, count)) count new.lawful short) sparing (omega (arith, tick, fresh))

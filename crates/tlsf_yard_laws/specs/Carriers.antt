@@ -1,10 +1,6 @@
 -- Races, whatever carries the posts of their workers.
 use Rattle.std.specs.Prelude.{◌≡◌, ℕ, List, Option}
-use Rattle.tlsf_heap.specs.declared.name.Name.{Name}
-use Rattle.tlsf_calls.specs.declared.call.Call.{Call}
-use Rattle.tlsf_calls.specs.declared.entry.Entry.{Entry}
-use Rattle.tlsf_crew.specs.model.World.{World}
-use Rattle.tlsf_crew.specs.races.Race.{IsRace}
+use Rattle.tlsf_yard_laws.specs.Common.{Name, Call, Entry, World, IsRace}
 use Rattle.tlsf_crew.specs.races.QueueRace.{IsQueueRace}
 
 -- what carries posts from one worker to another

@@ -1,23 +1,9 @@
 -- How large the heap of a worker must be in a race. It goes by the blocks that the programs hold at its requests and by how much
 -- its lanes, or its queue, hold.
 use Rattle.std.specs.Prelude.{◌≡◌, ◌≢◌, ℕ, zero, suc, ◌+◌, ◌<◌, ◌≤◌, ◌==◌, List, [], ◌++◌, Option, Some, fold, length, if◌then◌else◌}
-use Rattle.std.specs.List.{AllByRecursion}
+use Rattle.tlsf_yard_laws.specs.Common.{AllByRecursion, most_words, want, IsRegion, Name, Post, mixed_words, AreModest, IsServed, Inventory, inventory_after_all, World, StandsBehind, answers_on, calls_on, entries_of, posts_made, posts_taken, record_of, Entry, Call, Target, Allocate, Resize}
 use mathlib.Core.List.{IsPrefix}
-use Rattle.tlsf_class.specs.Classes.{most_words}
-use Rattle.tlsf_heap.specs.Blocks.{want}
-use Rattle.tlsf_heap.specs.Lawful.{IsRegion}
 use Rattle.tlsf_heap.specs.Calls as heap
-use Rattle.tlsf_heap.specs.declared.name.Name.{Name}
-use Rattle.tlsf_post.specs.declared.post.Post.{Post}
-use Rattle.tlsf_pool.specs.laws.MixedSizes.{mixed_words, AreModest, IsServed}
-use Rattle.tlsf_pool.specs.laws.Kinds.{Inventory, inventory_after_all}
-use Rattle.tlsf_crew.specs.model.World.{World}
-use Rattle.tlsf_crew.specs.histories.History.{StandsBehind, answers_on, calls_on, entries_of, posts_made, posts_taken}
-use Rattle.tlsf_crew.specs.races.Race.{record_of}
-use Rattle.tlsf_calls.specs.declared.entry.Entry.{Entry}
-use Rattle.tlsf_calls.specs.declared.call.Call.{Call}
-use Rattle.tlsf_calls.specs.declared.target.Target.{Target}
-use Rattle.tlsf_calls.specs.declared.call.Call.TheVariants.{Allocate, Resize}
 use Rattle.tlsf_yard_laws.specs.Carriers.{Carrier, IsRaceOver, OverLanes, OverQueues}
 use Rattle.tlsf_yard_laws.specs.Races.{HasPast}
 use Rattle.tlsf_yard_laws.specs.Sharing.{most_under_way, without_post}

@@ -1,17 +1,6 @@
 -- The duty of the programs of a race, so that each post releases a live block.
 use Rattle.std.specs.Prelude.{◌≡◌, ◌≢◌, ◌⊎◌, ℕ, ◌<◌, List, [], length, Option, Some, Err}
-use Rattle.tlsf_heap.specs.declared.name.Name.{Name}
-use Rattle.tlsf_heap.specs.declared.refusal.Refusal.TheVariants.{Stale}
-use Rattle.tlsf_heap.specs.Laws.{IsLive}
-use Rattle.tlsf_calls.specs.declared.call.Call.{Call}
-use Rattle.tlsf_calls.specs.declared.call.Call.TheVariants.{Release, Take}
-use Rattle.tlsf_calls.specs.declared.entry.Entry.{Entry}
-use Rattle.tlsf_calls.specs.declared.reply.Reply.TheVariants.{Freed, Posted, Took as Taken}
-use Rattle.tlsf_calls.specs.declared.target.Target.{Target}
-use Rattle.tlsf_calls.specs.declared.took.Took.{Took}
-use Rattle.tlsf_crew.specs.model.World.{World, heap_in, name_of}
-use Rattle.tlsf_crew.specs.histories.History.{AreLawful, StandsBehind}
-use Rattle.tlsf_crew.specs.races.Race.{record_of}
+use Rattle.tlsf_yard_laws.specs.Common.{Name, Stale, IsLive, Call, Release, Take, Entry, Freed, Posted, Taken, Target, Took, World, heap_in, name_of, AreLawful, StandsBehind, record_of}
 use Rattle.tlsf_yard_laws.specs.Carriers.{Carrier, IsRaceOver}
 
 -- the entry tells that this name was given back: its block was released, or the name was posted to the owner

@@ -1,22 +1,8 @@
 -- The laws that the worker of a heap may rely on in a race. They hold whatever the schedule of the threads, and after earlier races
 -- and replays.
 use Rattle.std.specs.Prelude.{◌≡◌, ℕ, ◌+◌, ◌<◌, ◌≤◌, List, [], ◌++◌, Option, None, length}
-use Rattle.std.specs.List.{AllByRecursion}
-use Rattle.tlsf_class.specs.Classes.{most_words}
-use Rattle.tlsf_heap.specs.Blocks.{want}
-use Rattle.tlsf_heap.specs.Lawful.{IsRegion}
+use Rattle.tlsf_yard_laws.specs.Common.{AllByRecursion, most_words, want, IsRegion, Name, live_count, held_after_all, mixed_words, AreModest, HasRoomFor, IsServed, contents, after_all, World, heap_in, replies, RunsTo, calls_on, answers_on, record_of, Event, Entry, Call}
 use Rattle.tlsf_heap.specs.Calls as heap
-use Rattle.tlsf_heap.specs.declared.name.Name.{Name}
-use Rattle.tlsf_pool.specs.laws.Room.{live_count}
-use Rattle.tlsf_pool.specs.laws.Held.{held_after_all}
-use Rattle.tlsf_pool.specs.laws.MixedSizes.{mixed_words, AreModest, HasRoomFor, IsServed}
-use Rattle.tlsf_pool.specs.laws.Contents.{contents, after_all}
-use Rattle.tlsf_crew.specs.model.World.{World, heap_in, replies}
-use Rattle.tlsf_crew.specs.histories.History.{RunsTo, calls_on, answers_on}
-use Rattle.tlsf_crew.specs.races.Race.{record_of}
-use Rattle.tlsf_calls.specs.declared.event.Event.{Event}
-use Rattle.tlsf_calls.specs.declared.entry.Entry.{Entry}
-use Rattle.tlsf_calls.specs.declared.call.Call.{Call}
 use Rattle.tlsf_yard_laws.specs.Carriers.{Carrier, IsRaceOver}
 use Rattle.tlsf_yard_laws.specs.Yards.{IsNew}
 

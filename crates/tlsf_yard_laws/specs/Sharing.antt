@@ -1,21 +1,7 @@
 -- How large the heap of a worker must be, by what the programs hold and by how much its lanes hold.
 use Rattle.std.specs.Prelude.{◌≡◌, ℕ, ◌+◌, ◌*◌, ◌-◌, ◌<◌, ◌≤◌, List, [], ◌∷◌, Option, Some, None, length, filter, not, ◌==◌, ⊤, if◌then◌else◌}
-use Rattle.std.specs.List.{AllByRecursion}
-use Rattle.tlsf_class.specs.Classes.{most_words}
-use Rattle.tlsf_heap.specs.Blocks.{want}
-use Rattle.tlsf_heap.specs.Lawful.{IsRegion}
+use Rattle.tlsf_yard_laws.specs.Common.{AllByRecursion, most_words, want, IsRegion, Name, Post, mixed_words, IsServed, is_same, Inventory, inventory_after, World, replies, answer_told, answers_on, call_on_own, post_of_release, Entry, Event, Target, Allocate, Resize}
 use Rattle.tlsf_heap.specs.Calls as heap
-use Rattle.tlsf_heap.specs.declared.name.Name.{Name}
-use Rattle.tlsf_post.specs.declared.post.Post.{Post}
-use Rattle.tlsf_pool.specs.laws.MixedSizes.{mixed_words, IsServed}
-use Rattle.tlsf_pool.specs.laws.Contents.{is_same}
-use Rattle.tlsf_pool.specs.laws.Kinds.{Inventory, inventory_after}
-use Rattle.tlsf_crew.specs.model.World.{World, replies}
-use Rattle.tlsf_crew.specs.histories.History.{answer_told, answers_on, call_on_own, post_of_release}
-use Rattle.tlsf_calls.specs.declared.entry.Entry.{Entry}
-use Rattle.tlsf_calls.specs.declared.event.Event.{Event}
-use Rattle.tlsf_calls.specs.declared.target.Target.{Target}
-use Rattle.tlsf_calls.specs.declared.call.Call.TheVariants.{Allocate, Resize}
 use Rattle.tlsf_yard_laws.specs.Carriers.{Carrier, OverLanes, OverQueues}
 use Rattle.tlsf_yard_laws.specs.Yards.{IsNew}
 

@@ -1,18 +1,7 @@
 -- The laws that the worker of a heap may rely on, whatever the other workers do.
 use Rattle.std.specs.Prelude.{◌≡◌, ℕ, ◌+◌, ◌<◌, ◌≤◌, List, None, length}
-use Rattle.std.specs.List.{AllByRecursion}
-use Rattle.tlsf_class.specs.Classes.{most_words}
-use Rattle.tlsf_heap.specs.Blocks.{want}
-use Rattle.tlsf_heap.specs.Lawful.{IsRegion}
+use Rattle.tlsf_yard_laws.specs.Common.{AllByRecursion, most_words, want, IsRegion, Name, live_count, held_after_all, mixed_words, AreModest, HasRoomFor, IsServed, contents, after_all, World, heap_in, replies, calls_on, answers_on, Event}
 use Rattle.tlsf_heap.specs.Calls.{last_tick, opened}
-use Rattle.tlsf_heap.specs.declared.name.Name.{Name}
-use Rattle.tlsf_pool.specs.laws.Room.{live_count}
-use Rattle.tlsf_pool.specs.laws.Held.{held_after_all}
-use Rattle.tlsf_pool.specs.laws.MixedSizes.{mixed_words, AreModest, HasRoomFor, IsServed}
-use Rattle.tlsf_pool.specs.laws.Contents.{contents, after_all}
-use Rattle.tlsf_crew.specs.model.World.{World, heap_in, replies}
-use Rattle.tlsf_crew.specs.histories.History.{calls_on, answers_on}
-use Rattle.tlsf_calls.specs.declared.event.Event.{Event}
 
 -- heap j of a world is new
 pub record IsNew {sli : ℕ} (w : World sli) (j words first : ℕ) : Type 0 where

@@ -1,24 +1,7 @@
 -- A list of entries: the events that made it, the calls on each heap, and the posts of each lane.
 use Rattle.std.specs.Prelude.{◌≡◌, ◌≢◌, ◌↔◌, ◌⊎◌, ℕ, ◌<◌, ◌≤◌, List, [], ◌∷◌, ◌++◌, length, map, Option, Some, None, Ok, Err, ⊤, All, ◌==◌, nat_le, if◌then◌else◌}
-use Rattle.std.specs.List.{filter, filter_map}
-use Rattle.std.specs.Option.{option_map}
-use Rattle.tlsf_class.specs.Classes.{IsLevel}
-use Rattle.tlsf_post.specs.declared.post.Post.{Post}
-use Rattle.tlsf_heap.specs.declared.name.Name.{Name}
-use Rattle.tlsf_heap.specs.declared.refusal.Refusal.TheVariants.{Range}
-use Rattle.tlsf_heap.specs.Blocks.{HeapState}
+use Rattle.tlsf_crew.specs.Common.{filter, filter_map, option_map, IsLevel, Post, Name, Range, HeapState, IsLawful, bytes_of, Event, Entry, Call, Allocate, Release, Write, Read, Resize, Take, Drain, Target, Reply, Took, Made, Freed, Posted, Wrote, Got, Resized, Taken, Drained, Refused, Heap, Full, Stranger, Unmade}
 use Rattle.tlsf_heap.specs.Calls as heap
-use Rattle.tlsf_heap.specs.Lawful.{IsLawful}
-use Rattle.tlsf_calls.specs.Bytes.{bytes_of}
-use Rattle.tlsf_calls.specs.declared.event.Event.{Event}
-use Rattle.tlsf_calls.specs.declared.entry.Entry.{Entry}
-use Rattle.tlsf_calls.specs.declared.call.Call.{Call}
-use Rattle.tlsf_calls.specs.declared.call.Call.TheVariants.{Allocate, Release, Write, Read, Resize, Take, Drain}
-use Rattle.tlsf_calls.specs.declared.target.Target.{Target}
-use Rattle.tlsf_calls.specs.declared.reply.Reply.{Reply}
-use Rattle.tlsf_calls.specs.declared.took.Took.{Took}
-use Rattle.tlsf_calls.specs.declared.reply.Reply.TheVariants.{Made, Freed, Posted, Wrote, Got, Resized, Took as Taken, Drained, Refused}
-use Rattle.tlsf_calls.specs.declared.crew_refusal.CrewRefusal.TheVariants.{Heap, Full, Stranger, Unmade}
 use Rattle.tlsf_crew.specs.model.World.{World, heap_in, made_by, name_of}
 
 -- ---- the events

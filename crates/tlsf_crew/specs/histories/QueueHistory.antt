@@ -1,12 +1,6 @@
 -- A worker's record over queues: its calls, and the takes of its drains.
 use Rattle.std.specs.Prelude.{◌≡◌, ◌≢◌, ℕ, ◌<◌, ◌≤◌, List, [], ◌∷◌, ◌++◌, length, Option, None, ⊤}
-use Rattle.tlsf_heap.specs.declared.name.Name.{Name}
-use Rattle.tlsf_calls.specs.declared.entry.Entry.{Entry}
-use Rattle.tlsf_calls.specs.declared.call.Call.{Call}
-use Rattle.tlsf_calls.specs.declared.call.Call.TheVariants.{Take, Drain}
-use Rattle.tlsf_calls.specs.declared.took.Took.{Took}
-use Rattle.tlsf_calls.specs.declared.crew_refusal.CrewRefusal.TheVariants.{Stranger}
-use Rattle.tlsf_calls.specs.declared.reply.Reply.TheVariants.{Took as Taken, Drained, Refused}
+use Rattle.tlsf_crew.specs.Common.{Name, Entry, Call, Take, Drain, Took, Stranger, Taken, Drained, Refused}
 use Rattle.tlsf_crew.specs.histories.History.{IsOne}
 
 -- takes of a worker that each took a post of another of n workers, in whatever order

@@ -1,6 +1,6 @@
 -- All that the thread of one worker is given, and its promise of what it hands back.
 use Rattle.std.specs.Prelude.{◌≡◌, ℕ, ◌+◌, ◌^◌, ◌<◌, ◌≤◌, List, [], vec_len, vec_capacity}
-use Rattle.tlsf_crew.specs.declared.worker.worker.Worker.{Worker}
+use Rattle.tlsf_crew.specs.Common.{Worker}
 use Rattle.tlsf_crew.specs.model.Sums.{sum_of}
 use Rattle.tlsf_crew.specs.scripts.Scripts.{ScriptRun, ScriptPromise, at_stage}
 use Rattle.tlsf_crew.specs.declared.jobs.job.Job.{Job}

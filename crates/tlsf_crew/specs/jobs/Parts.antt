@@ -1,11 +1,6 @@
 -- Facts that the parts of a race give one another. This serves the contracts and proofs of private functions alone.
 use Rattle.std.specs.Prelude.{◌≡◌, ℕ, ◌+◌, ◌<◌, ◌^◌, All, List, [], ◌∷◌, length, slice_index, slice_get, Option, Some, vec_len, vec_capacity}
-use Rattle.std.specs.declared.vec.Vec.{Vec}
-use Rattle.std.specs.declared.alloc.Global.{Global}
-use Rattle.tlsf_heap.specs.declared.name.Name.{Name}
-use Rattle.tlsf_crew.specs.declared.worker.worker.Worker.{Worker}
-use Rattle.tlsf_calls.specs.declared.entry.Entry.{Entry}
-use Rattle.tlsf_calls.specs.declared.call.Call.{Call}
+use Rattle.tlsf_crew.specs.Common.{Vec, Global, Name, Entry, Call, Worker}
 use Rattle.tlsf_crew.specs.declared.jobs.job.Job.{Job}
 use Rattle.tlsf_crew.specs.model.Sums.{sum_of}
 use Rattle.tlsf_crew.specs.scripts.EntryRoom.{releases_of}

@@ -1,11 +1,6 @@
 -- The puts and takes of the calls of a worker over lanes.
 use Rattle.std.specs.Prelude.{◌≡◌, ℕ, List, Option, Some, Result, slice_get, slice_set}
-use Rattle.tlsf_heap.specs.declared.name.Name.{Name}
-use Rattle.tlsf_post.specs.declared.post.Post.{Post}
-use Rattle.tlsf_calls.specs.declared.crew_refusal.CrewRefusal.{CrewRefusal}
-use Rattle.tlsf_calls.specs.declared.took.Took.{Took}
-use Rattle.tlsf_crew.specs.declared.worker.worker.Worker.{Worker}
-use Rattle.tlsf_crew.specs.declared.worker.lanes.Lanes.{Lanes}
+use Rattle.tlsf_crew.specs.Common.{Name, Post, CrewRefusal, Took, Worker, Lanes}
 use Rattle.tlsf_crew.specs.lanes.LaneWorkers.{PutThrough, TookThrough}
 use Rattle.tlsf_crew.specs.lanes.Yard.{IsYard}
 use Rattle.tlsf_crew.specs.worker.Calls.{TakenFrom, put_answer}

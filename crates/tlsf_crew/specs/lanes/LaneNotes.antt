@@ -1,7 +1,6 @@
 -- The notes of a drain of lanes on the posts that it takes. This serves the contracts and proofs of private functions alone.
 use Rattle.std.specs.Prelude.{◌≡◌, ℕ, Option, None}
-use Rattle.tlsf_calls.specs.declared.took.Took.{Took}
-use Rattle.tlsf_crew.specs.declared.worker.lanes.Lanes.{Lanes}
+use Rattle.tlsf_crew.specs.Common.{Took, Lanes}
 use Rattle.tlsf_crew.specs.lanes.LaneWorkers.{HearsLane, TookThrough}
 use Rattle.tlsf_crew.specs.worker.Notes.{TakeRules}
 

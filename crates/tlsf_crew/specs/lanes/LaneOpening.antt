@@ -1,10 +1,6 @@
 -- Facts about the ends of a new yard of lanes.
 use Rattle.std.specs.Prelude.{◌≡◌, ℕ, List, [], Some}
-use Rattle.tlsf_post.specs.declared.post_end.PostEnd.{PostEnd}
-use Rattle.tlsf_post.specs.declared.take_end.TakeEnd.{TakeEnd}
-use Rattle.tlsf_post.specs.Lanes.{posts_sent, free_slots, waited, taken, ready}
-use Rattle.tlsf_crew.specs.declared.worker.worker.Worker.{Worker}
-use Rattle.tlsf_crew.specs.declared.worker.lanes.Lanes.{Lanes}
+use Rattle.tlsf_crew.specs.Common.{PostEnd, TakeEnd, posts_sent, free_slots, waited, taken, ready, Worker, Lanes}
 use Rattle.tlsf_crew.specs.lanes.Yard.{post_at, take_at}
 
 -- each end that posts knows this many free slots

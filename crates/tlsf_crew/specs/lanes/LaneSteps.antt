@@ -1,11 +1,7 @@
 -- The change in a yard when a lane is settled, or a step is made on one end of it. This serves the contracts and proofs of private
 -- functions alone.
 use Rattle.std.specs.Prelude.{◌≡◌, ◌≢◌, ℕ, ◌<◌, ◌≤◌, List, length, map, Some, slice_get, slice_set}
-use Rattle.tlsf_post.specs.declared.post_end.PostEnd.{PostEnd}
-use Rattle.tlsf_post.specs.declared.take_end.TakeEnd.{TakeEnd}
-use Rattle.tlsf_post.specs.Lanes.{capacity_of, IsLane}
-use Rattle.tlsf_crew.specs.declared.worker.worker.Worker.{Worker}
-use Rattle.tlsf_crew.specs.declared.worker.lanes.Lanes.{Lanes}
+use Rattle.tlsf_crew.specs.Common.{PostEnd, TakeEnd, capacity_of, IsLane, Worker, Lanes}
 use Rattle.tlsf_crew.specs.worker.Workers.{heap_of, Stays}
 use Rattle.tlsf_crew.specs.lanes.LaneWorkers.{id_and_capacity, lane_extents}
 use Rattle.tlsf_crew.specs.lanes.Yard.{post_at, take_at, BothBeside}

@@ -1,9 +1,7 @@
 -- The takes of a drain of lanes, and the posts that it leaves.
 use Rattle.std.specs.Prelude.{◌≡◌, ℕ, zero, suc, ◌-◌, ◌<◌, List, [], ◌++◌, length, None, ◌⊎◌}
+use Rattle.tlsf_crew.specs.Common.{Took, Worker, Lanes}
 use Rattle.tlsf_calls.specs.declared.drained.Drained.{Drained}
-use Rattle.tlsf_calls.specs.declared.took.Took.{Took}
-use Rattle.tlsf_crew.specs.declared.worker.worker.Worker.{Worker}
-use Rattle.tlsf_crew.specs.declared.worker.lanes.Lanes.{Lanes}
 use Rattle.tlsf_crew.specs.worker.Workers.{heap_of}
 use Rattle.tlsf_crew.specs.lanes.LaneWorkers.{HasTake, TookThrough, lane_places}
 use Rattle.tlsf_crew.specs.worker.Calls.{TakesInTurn}

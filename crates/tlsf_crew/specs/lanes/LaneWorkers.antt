@@ -1,13 +1,6 @@
 -- The view of a worker over lanes: its capacity, and its end of each lane.
 use Rattle.std.specs.Prelude.{◌≡◌, ◌≢◌, ℕ, ◌-◌, ◌<◌, List, [], ◌∷◌, ◌++◌, length, Option, Some, Result, slice_get, OnOk, IfErr, IsOk, IfSome, IfNone, IsSome, ◌↔◌, ◌≤◌}
-use mathlib.Core.List.{IsPrefix}
-use Rattle.tlsf_words.specs.Memory.{Extent, Extents}
-use Rattle.tlsf_post.specs.declared.post.Post.{Post}
-use Rattle.tlsf_post.specs.declared.post_end.PostEnd.{PostEnd}
-use Rattle.tlsf_post.specs.declared.take_end.TakeEnd.{TakeEnd}
-use Rattle.tlsf_post.specs.Lanes.{posts_sent, free_slots, waited, taken, ready, post_extent, take_extent, KeepsPost, KeepsTake}
-use Rattle.tlsf_crew.specs.declared.worker.worker.Worker.{Worker}
-use Rattle.tlsf_crew.specs.declared.worker.lanes.Lanes.{Lanes}
+use Rattle.tlsf_crew.specs.Common.{IsPrefix, Extent, Extents, Post, PostEnd, TakeEnd, posts_sent, free_slots, waited, taken, ready, post_extent, take_extent, KeepsPost, KeepsTake, Worker, Lanes}
 use Rattle.tlsf_crew.specs.worker.Workers.{id_of, SameButPorts, slot_of, extent_of, end_extents}
 
 -- a worker's own number, and the capacity of its lanes

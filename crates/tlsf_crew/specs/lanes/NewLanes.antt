@@ -1,8 +1,6 @@
 -- A yard whose lanes are being laid. This serves the contracts and proofs of private functions alone.
 use Rattle.std.specs.Prelude.{◌≡◌, ◌≢◌, ℕ, ◌<◌, ◌⊎◌, List, [], length, map, Some, None, slice_get}
-use Rattle.std.specs.List.{range_with_len}
-use Rattle.tlsf_crew.specs.declared.worker.worker.Worker.{Worker}
-use Rattle.tlsf_crew.specs.declared.worker.lanes.Lanes.{Lanes}
+use Rattle.tlsf_crew.specs.Common.{range_with_len, Worker, Lanes}
 use Rattle.tlsf_crew.specs.worker.Workers.{heap_of}
 use Rattle.tlsf_crew.specs.lanes.LaneWorkers.{id_and_capacity}
 use Rattle.tlsf_crew.specs.lanes.Yard.{post_at, take_at, lane_waits, HasPair}

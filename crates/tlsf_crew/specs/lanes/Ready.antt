@@ -1,9 +1,6 @@
 -- How many posts the ends of a yard know to be ready.
 use Rattle.std.specs.Prelude.{ℕ, List, length, Option, Some, None}
-use Rattle.tlsf_post.specs.declared.take_end.TakeEnd.{TakeEnd}
-use Rattle.tlsf_post.specs.Lanes.{ready}
-use Rattle.tlsf_crew.specs.declared.worker.worker.Worker.{Worker}
-use Rattle.tlsf_crew.specs.declared.worker.lanes.Lanes.{Lanes}
+use Rattle.tlsf_crew.specs.Common.{TakeEnd, ready, Worker, Lanes}
 use Rattle.tlsf_crew.specs.lanes.LaneWorkers.{end_from}
 use Rattle.tlsf_crew.specs.lanes.Yard.{take_at}
 use Rattle.tlsf_crew.specs.model.Sums.{sum_below}

@@ -1,9 +1,6 @@
 -- Facts that `settle` tells of the lanes of a yard.
 use Rattle.std.specs.Prelude.{◌≡◌, ◌≢◌, ℕ, ◌<◌, List, length, map, Some}
-use Rattle.tlsf_post.specs.declared.post_end.PostEnd.{PostEnd}
-use Rattle.tlsf_post.specs.declared.take_end.TakeEnd.{TakeEnd}
-use Rattle.tlsf_crew.specs.declared.worker.worker.Worker.{Worker}
-use Rattle.tlsf_crew.specs.declared.worker.lanes.Lanes.{Lanes}
+use Rattle.tlsf_crew.specs.Common.{PostEnd, TakeEnd, Worker, Lanes}
 use Rattle.tlsf_crew.specs.worker.Workers.{shown_of}
 use Rattle.tlsf_crew.specs.lanes.Yard.{post_at, take_at, world_of, BothBeside, IsYard}
 

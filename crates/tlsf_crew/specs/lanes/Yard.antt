@@ -1,16 +1,8 @@
 -- A yard of workers, its lanes, and when it is whole.
 use Rattle.std.specs.Prelude.{ℕ, List, map, ◌≡◌, ◌≢◌, ◌+◌, ◌<◌, ◌≤◌, [], ◌++◌, length, drop, get_or, Option, Some, None, slice_get, All}
-use Rattle.tlsf_crew.specs.declared.worker.worker.Worker.{Worker}
-use Rattle.tlsf_crew.specs.declared.worker.lanes.Lanes.{Lanes}
+use Rattle.tlsf_crew.specs.Common.{IsLevel, Post, PostEnd, TakeEnd, posts_sent, free_slots, capacity_of, waited, taken, ready, IsLane, HeapState, Shown, Worker, Lanes}
 use Rattle.tlsf_crew.specs.worker.Workers.{heap_of, shown_of, IsHeapOf}
 use Rattle.tlsf_crew.specs.model.World.{World, no_heap}
-use Rattle.tlsf_class.specs.Classes.{IsLevel}
-use Rattle.tlsf_post.specs.declared.post.Post.{Post}
-use Rattle.tlsf_post.specs.declared.post_end.PostEnd.{PostEnd}
-use Rattle.tlsf_post.specs.declared.take_end.TakeEnd.{TakeEnd}
-use Rattle.tlsf_post.specs.Lanes.{posts_sent, free_slots, capacity_of, waited, taken, ready, IsLane}
-use Rattle.tlsf_heap.specs.Blocks.{HeapState}
-use Rattle.tlsf_heap.specs.Shown.{Shown}
 use Rattle.tlsf_crew.specs.lanes.LaneWorkers.{id_and_capacity, end_to, end_from}
 
 abbrev pub end_to_in : {sli : ℕ} → Option (Worker sli Lanes) → ℕ → Option PostEnd

@@ -1,14 +1,8 @@
 -- The calls of one heap: the heap's own definitions, under names that don't unfold by themselves. The heap's are `abbrev`: each
 -- proof on worlds would carry their bodies in its goals, and its searches would stop at a limit.
 use Rattle.std.specs.Prelude.{ℕ, List, Result, Ok, Err, nat_le, if◌then◌else◌}
-use Rattle.tlsf_heap.specs.Blocks.{HeapState}
+use Rattle.tlsf_crew.specs.Common.{HeapState, Outcome, chunk_of, Chunk, Name, Refusal, Range}
 use Rattle.tlsf_heap.specs.Calls as heap
-use Rattle.tlsf_heap.specs.Calls.{Outcome}
-use Rattle.tlsf_calls.specs.Bytes.{chunk_of}
-use Rattle.tlsf_calls.specs.declared.chunk.Chunk.{Chunk}
-use Rattle.tlsf_heap.specs.declared.name.Name.{Name}
-use Rattle.tlsf_heap.specs.declared.refusal.Refusal.{Refusal}
-use Rattle.tlsf_heap.specs.declared.refusal.Refusal.TheVariants.{Range}
 
 unfoldable pub allocated : ℕ → HeapState → ℕ → Outcome Name
 allocated sli h len = heap.allocated sli h len

@@ -1,8 +1,6 @@
 -- The world of a new yard.
 use Rattle.std.specs.Prelude.{ℕ, List, [], map}
-use Rattle.std.specs.List.{range_with_len}
-use Rattle.tlsf_heap.specs.Blocks.{HeapState}
-use Rattle.tlsf_heap.specs.Calls.{opened}
+use Rattle.tlsf_crew.specs.Common.{range_with_len, HeapState, opened}
 use Rattle.tlsf_crew.specs.model.World.{World}
 
 abbrev pub opened_heaps : ℕ → ℕ → List HeapState

@@ -1,12 +1,6 @@
 -- The replies of a worker's own heap to a call of a script, and the heap that is left.
 use Rattle.std.specs.Prelude.{◌≡◌, ℕ, List, length, Option, Some, None, Result, Ok, Err}
-use Rattle.tlsf_heap.specs.Blocks.{HeapState}
-use Rattle.tlsf_heap.specs.declared.name.Name.{Name}
-use Rattle.tlsf_heap.specs.declared.refusal.Refusal.{Refusal}
-use Rattle.tlsf_calls.specs.declared.chunk.Chunk.{Chunk}
-use Rattle.tlsf_calls.specs.declared.reply.Reply.{Reply}
-use Rattle.tlsf_calls.specs.declared.reply.Reply.TheVariants.{Made, Freed, Wrote, Got, Resized, Refused}
-use Rattle.tlsf_calls.specs.declared.crew_refusal.CrewRefusal.TheVariants.{Heap, Unmade}
+use Rattle.tlsf_crew.specs.Common.{HeapState, Name, Refusal, Chunk, Reply, Made, Freed, Wrote, Got, Resized, Refused, Heap, Unmade}
 use Rattle.tlsf_crew.specs.model.Heaps.{allocated, released, written, resized, chunk_read}
 
 -- ---- replies by what the heap answers

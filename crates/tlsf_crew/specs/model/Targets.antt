@@ -1,8 +1,6 @@
 -- The name that the target of a call means.
 use Rattle.std.specs.Prelude.{List, Option, None}
-use Rattle.tlsf_heap.specs.declared.name.Name.{Name}
-use Rattle.tlsf_calls.specs.declared.call.Call.{Call}
-use Rattle.tlsf_calls.specs.declared.call.Call.TheVariants.{Allocate, Release, Write, Read, Resize, Take, Drain}
+use Rattle.tlsf_crew.specs.Common.{Name, Call, Allocate, Release, Write, Read, Resize, Take, Drain}
 use Rattle.tlsf_crew.specs.model.World.{name_of}
 
 -- by what the calls so far made; none where the call has no target

@@ -1,21 +1,9 @@
 -- The world that a yard shows, and one step of it.
 use Rattle.std.specs.Prelude.{zero, suc, ℕ, ◌+◌, ◌-◌, List, [], ◌∷◌, ◌++◌, length, take, drop, get_or, set, Option, Some, None, ◌&&◌, ◌==◌, nat_lt, if◌then◌else◌}
-use Rattle.std.specs.List.{fold}
-use Rattle.tlsf_post.specs.declared.post.Post.{Post}
-use Rattle.tlsf_heap.specs.declared.name.Name.{Name}
-use Rattle.tlsf_heap.specs.Blocks.{HeapState}
-use Rattle.tlsf_calls.specs.Bytes.{bytes_of}
+use Rattle.tlsf_crew.specs.Common.{fold, Post, Name, HeapState, bytes_of, Event, Entry, Call, Allocate, Release, Write, Read, Resize, Take, Drain, Target, Reply, Posted, Taken, Empty, Drained, Refused, Full, Stranger, Unmade}
 use Rattle.tlsf_crew.specs.model.Heaps.{released}
 use Rattle.tlsf_crew.specs.model.OwnReplies.{HeapReply, own_allocating, own_freeing, own_writing, own_reading, own_resizing}
-use Rattle.tlsf_calls.specs.declared.event.Event.{Event}
-use Rattle.tlsf_calls.specs.declared.entry.Entry.{Entry}
-use Rattle.tlsf_calls.specs.declared.call.Call.{Call}
-use Rattle.tlsf_calls.specs.declared.call.Call.TheVariants.{Allocate, Release, Write, Read, Resize, Take, Drain}
-use Rattle.tlsf_calls.specs.declared.target.Target.{Target}
 use Rattle.tlsf_calls.specs.declared.target.Target.TheVariants.{Named, Made as MadeBy, Absent}
-use Rattle.tlsf_calls.specs.declared.reply.Reply.{Reply}
-use Rattle.tlsf_calls.specs.declared.reply.Reply.TheVariants.{Posted, Took as Taken, Empty, Drained, Refused}
-use Rattle.tlsf_calls.specs.declared.crew_refusal.CrewRefusal.TheVariants.{Full, Stranger, Unmade}
 pub use Rattle.tlsf_calls.specs.Entries.{made_by}
 pub use Rattle.tlsf_crew.specs.model.OwnReplies.{reply_made, reply_freed, reply_wrote, reply_got, reply_resized}
 

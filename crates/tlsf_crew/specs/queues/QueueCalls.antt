@@ -1,11 +1,9 @@
 -- The answers and effects of the calls of a worker over queues.
 use Rattle.std.specs.Prelude.{◌≡◌, ℕ, ◌<◌, ◌⊎◌, List, length, Option, None}
+use Rattle.tlsf_crew.specs.Common.{Took, Worker, Queues}
 use Rattle.tlsf_calls.specs.declared.drained.Drained.{Drained}
-use Rattle.tlsf_calls.specs.declared.took.Took.{Took}
 use Rattle.tlsf_crew.specs.worker.Calls.{TakenFrom, TakesInTurn}
 use Rattle.tlsf_crew.specs.worker.Drains.{heap_after, IsCountOf}
-use Rattle.tlsf_crew.specs.declared.worker.worker.Worker.{Worker}
-use Rattle.tlsf_crew.specs.declared.queues.queues.Queues.{Queues}
 use Rattle.tlsf_crew.specs.worker.Workers.{heap_of}
 use Rattle.tlsf_crew.specs.queues.QueueWorkers.{AsksQueue}
 

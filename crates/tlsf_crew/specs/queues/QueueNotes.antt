@@ -1,7 +1,6 @@
 -- The notes of a drain of a queue on the posts that it takes. This serves the contracts and proofs of private functions alone.
 use Rattle.std.specs.Prelude.{ℕ, ⊤, Option, Some, None}
-use Rattle.tlsf_calls.specs.declared.took.Took.{Took}
-use Rattle.tlsf_crew.specs.declared.queues.queues.Queues.{Queues}
+use Rattle.tlsf_crew.specs.Common.{Took, Queues}
 use Rattle.tlsf_crew.specs.queues.QueueWorkers.{AsksQueue, TookOut}
 use Rattle.tlsf_crew.specs.worker.Notes.{TakeRules}
 

@@ -1,12 +1,6 @@
 -- Facts about the queues of a yard once all ends of each were side by side.
 use Rattle.std.specs.Prelude.{◌≡◌, ◌≢◌, ◌⊎◌, ℕ, zero, suc, ◌<◌, ◌≤◌, List, [], ◌++◌, length, Option, Some, None, slice_get, slice_set}
-use Rattle.std.specs.Option.{option_to_list}
-use Rattle.tlsf_post.specs.Rule.{posts_of}
-use Rattle.tlsf_post.specs.Mailboxes.{put_by, gone_from, got_by, known_to, most_of}
-use Rattle.tlsf_post.specs.declared.post.Post.{Post}
-use Rattle.tlsf_post.specs.declared.poster_end.PosterEnd.{PosterEnd}
-use Rattle.tlsf_crew.specs.declared.worker.worker.Worker.{Worker}
-use Rattle.tlsf_crew.specs.declared.queues.queues.Queues.{Queues}
+use Rattle.tlsf_crew.specs.Common.{option_to_list, posts_of, put_by, gone_from, got_by, known_to, most_of, Post, PosterEnd, Worker, Queues}
 use Rattle.tlsf_crew.specs.queues.QueueWorkers.{queue_end_to}
 use Rattle.tlsf_crew.specs.queues.QueueYard.{IsQueueYard, queue_end_in}
 

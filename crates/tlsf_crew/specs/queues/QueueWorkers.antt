@@ -1,15 +1,8 @@
 -- The view of a worker over queues besides: the end of its own queue, and its end of each other queue.
 use Rattle.std.specs.Prelude.{◌≡◌, ◌≢◌, ℕ, ◌<◌, ◌≤◌, List, [], ◌∷◌, ◌++◌, length, Option, Some, None, Result, slice_get, OnOk, IfErr, IfSome, IfNone, ⊤}
-use Rattle.tlsf_heap.specs.declared.name.Name.{Name}
-use Rattle.tlsf_words.specs.Memory.{Extent}
-use Rattle.tlsf_post.specs.Mailboxes.{number_of, put_by, plan_of, poster_extent, owner_of, out_of, got_by, owner_extent, IsOnlyPoster, HasFilled, PosterSaw, OwnerSaw, KeepsPoster, KeepsOwner, IsAllTaken}
-use Rattle.tlsf_post.specs.declared.post.Post.{Post}
-use Rattle.tlsf_post.specs.declared.poster_end.PosterEnd.{PosterEnd}
-use Rattle.tlsf_calls.specs.declared.crew_refusal.CrewRefusal.{CrewRefusal}
+use Rattle.tlsf_crew.specs.Common.{Name, Extent, number_of, put_by, plan_of, poster_extent, owner_of, out_of, got_by, owner_extent, IsOnlyPoster, HasFilled, PosterSaw, OwnerSaw, KeepsPoster, KeepsOwner, IsAllTaken, Post, PosterEnd, CrewRefusal, Worker, Queues}
 use Rattle.tlsf_crew.specs.worker.Calls.{put_answer}
 use Rattle.tlsf_crew.specs.worker.Workers.{IsOther, heap_of, id_of, slot_of, SameButPorts, KeepsHeap, extent_of, end_extents}
-use Rattle.tlsf_crew.specs.declared.worker.worker.Worker.{Worker}
-use Rattle.tlsf_crew.specs.declared.queues.queues.Queues.{Queues}
 
 -- the end that posts into the queue of worker j
 abbrev pub queue_to : Queues → ℕ → Option PosterEnd

@@ -1,14 +1,8 @@
 -- A yard over queues, when it is whole, and the world that it shows.
 use Rattle.std.specs.Prelude.{◌≡◌, ℕ, ◌≤◌, List, [], length, map, drop, Option, Some, None, slice_get}
-use Rattle.tlsf_class.specs.Classes.{IsLevel}
-use Rattle.tlsf_post.specs.Rule.{posts_of}
-use Rattle.tlsf_post.specs.Mailboxes.{number_of, put_by, most_of, got_by, IsMailbox}
-use Rattle.tlsf_post.specs.declared.post.Post.{Post}
-use Rattle.tlsf_post.specs.declared.poster_end.PosterEnd.{PosterEnd}
+use Rattle.tlsf_crew.specs.Common.{IsLevel, posts_of, number_of, put_by, most_of, got_by, IsMailbox, Post, PosterEnd, Worker, Queues}
 use Rattle.tlsf_crew.specs.model.World.{World}
 use Rattle.tlsf_crew.specs.worker.Workers.{IsHeapOf, heap_of, id_of}
-use Rattle.tlsf_crew.specs.declared.worker.worker.Worker.{Worker}
-use Rattle.tlsf_crew.specs.declared.queues.queues.Queues.{Queues}
 use Rattle.tlsf_crew.specs.queues.QueueWorkers.{queue_end_to, KnowsQueueYard}
 
 -- a worker of n, of number i, with a lawful heap of its number and a queue of this capacity

@@ -1,15 +1,10 @@
 -- The result of a race over queues where no script takes posts: the schedule of the threads decides nothing. Each queue has one
 -- poster, and none was full but where no other worker could fill it.
 use Rattle.std.specs.Prelude.{◌≡◌, ◌≢◌, ℕ, ◌<◌, List, [], length}
-use Rattle.tlsf_heap.specs.declared.name.Name.{Name}
-use Rattle.tlsf_calls.specs.declared.call.Call.{Call}
-use Rattle.tlsf_calls.specs.declared.entry.Entry.{Entry}
-use Rattle.tlsf_calls.specs.declared.crew_refusal.CrewRefusal.TheVariants.{Full}
-use Rattle.tlsf_calls.specs.declared.reply.Reply.TheVariants.{Refused}
+use Rattle.tlsf_crew.specs.Common.{Name, Call, Entry, Full, Refused, record_of}
 use Rattle.tlsf_crew.specs.model.World.{World}
 use Rattle.tlsf_crew.specs.histories.History.{posts_taken, StandsBehind}
 use Rattle.tlsf_crew.specs.race_laws.Alone.{OnlyLastDrains}
-use Rattle.tlsf_calls.specs.Entries.{record_of}
 use Rattle.tlsf_crew.specs.races.QueueRace.{IsQueueRace}
 
 -- the worker met no full queue

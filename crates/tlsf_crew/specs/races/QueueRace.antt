@@ -1,19 +1,10 @@
 -- The answers to the workers of a race over queues: each record by itself, and how the records fit together.
 use Rattle.std.specs.Prelude.{◌≡◌, ◌≢◌, ℕ, ◌+◌, ◌<◌, ◌≤◌, List, [], ◌∷◌, ◌++◌, length, Option, All}
-use mathlib.Core.List.{IsPrefix}
-use Rattle.tlsf_post.specs.declared.post.Post.{Post}
-use Rattle.tlsf_heap.specs.declared.name.Name.{Name}
-use Rattle.tlsf_heap.specs.Blocks.{HeapState}
-use Rattle.tlsf_calls.specs.declared.entry.Entry.{Entry}
-use Rattle.tlsf_calls.specs.declared.call.Call.{Call}
-use Rattle.tlsf_calls.specs.declared.call.Call.TheVariants.{Drain}
-use Rattle.tlsf_calls.specs.declared.crew_refusal.CrewRefusal.TheVariants.{Full}
-use Rattle.tlsf_calls.specs.declared.reply.Reply.TheVariants.{Drained, Refused}
+use Rattle.tlsf_crew.specs.Common.{IsPrefix, Post, Name, HeapState, Entry, Call, Drain, Full, Drained, Refused, record_of}
 use Rattle.tlsf_crew.specs.model.World.{World, heap_in}
 use Rattle.tlsf_crew.specs.histories.History.{posts_made, posts_taken, StandsBehind}
 use Rattle.tlsf_crew.specs.model.Progress.{Progress, untold}
 use Rattle.tlsf_crew.specs.scripts.Scripts.{last_call, script_of}
-use Rattle.tlsf_calls.specs.Entries.{record_of}
 use Rattle.tlsf_crew.specs.model.QueueProgress.{MayTellQueueAll}
 
 -- the worker made the calls of its script and then the last one, and was told so

@@ -1,18 +1,8 @@
 -- Facts that the parts of a race over queues give one another. This serves the contracts and proofs of private functions alone.
 use Rattle.std.specs.Prelude.{All, ◌≡◌, ℕ, ◌<◌, ◌≤◌, List, [], ◌∷◌, ◌++◌, length, Option, Some, None, slice_get, vec_len, vec_capacity}
-use Rattle.std.specs.declared.vec.Vec.{Vec}
-use Rattle.std.specs.declared.alloc.Global.{Global}
-use mathlib.Core.List.{IsPrefix}
-use Rattle.tlsf_post.specs.Rule.{posts_of}
-use Rattle.tlsf_post.specs.Mailboxes.{got_by, known_to}
-use Rattle.tlsf_heap.specs.declared.name.Name.{Name}
-use Rattle.tlsf_calls.specs.declared.entry.Entry.{Entry}
-use Rattle.tlsf_calls.specs.declared.call.Call.{Call}
+use Rattle.tlsf_crew.specs.Common.{Vec, Global, IsPrefix, posts_of, got_by, known_to, Name, Entry, Call, record_of, Worker, Queues}
 use Rattle.tlsf_crew.specs.jobs.Job.{KnowsSome}
 use Rattle.tlsf_crew.specs.scripts.Scripts.{ScriptRun, at_stage, last_call, script_of}
-use Rattle.tlsf_calls.specs.Entries.{record_of}
-use Rattle.tlsf_crew.specs.declared.worker.worker.Worker.{Worker}
-use Rattle.tlsf_crew.specs.declared.queues.queues.Queues.{Queues}
 use Rattle.tlsf_crew.specs.worker.Workers.{heap_of, id_of}
 use Rattle.tlsf_crew.specs.queues.QueueWorkers.{queue_end_to, KnowsQueueYard}
 use Rattle.tlsf_crew.specs.model.QueueProgress.{MayTellQueue}

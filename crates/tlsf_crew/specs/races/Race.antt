@@ -1,15 +1,6 @@
 -- The answers to the workers of a race: each record by itself, and how the records fit together.
 use Rattle.std.specs.Prelude.{◌≡◌, ◌≢◌, ℕ, ◌+◌, ◌<◌, ◌≤◌, List, [], ◌∷◌, ◌++◌, length, map, drop, Option, All}
-use mathlib.Core.List.{IsPrefix}
-use Rattle.tlsf_post.specs.declared.post.Post.{Post}
-use Rattle.tlsf_heap.specs.declared.name.Name.{Name}
-use Rattle.tlsf_heap.specs.Blocks.{HeapState}
-use Rattle.tlsf_calls.specs.declared.entry.Entry.{Entry}
-use Rattle.tlsf_calls.specs.declared.event.Event.{Event}
-use Rattle.tlsf_calls.specs.declared.call.Call.{Call}
-use Rattle.tlsf_calls.specs.declared.call.Call.TheVariants.{Take, Drain}
-use Rattle.tlsf_calls.specs.declared.reply.Reply.TheVariants.{Empty, Drained, Refused}
-use Rattle.tlsf_calls.specs.declared.crew_refusal.CrewRefusal.TheVariants.{Full}
+use Rattle.tlsf_crew.specs.Common.{IsPrefix, Post, Name, HeapState, Entry, Event, Call, Take, Drain, Empty, Drained, Refused, Full}
 pub use Rattle.tlsf_calls.specs.Entries.{record_of}
 use Rattle.tlsf_crew.specs.model.World.{World, heap_in}
 use Rattle.tlsf_crew.specs.histories.History.{posts_made, posts_taken, StandsBehind}

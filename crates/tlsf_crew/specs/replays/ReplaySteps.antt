@@ -1,15 +1,6 @@
 -- The answers and effects of the steps of a replay. This serves the contracts and proofs of private functions alone.
 use Rattle.std.specs.Prelude.{◌≡◌, ℕ, ◌<◌, ◌≤◌, List, [], ◌∷◌, ◌++◌, length, slice_index, Option, Some, ⊤}
-use Rattle.tlsf_post.specs.declared.take_end.TakeEnd.{TakeEnd}
-use Rattle.tlsf_post.specs.Lanes.{ready}
-use Rattle.tlsf_heap.specs.declared.name.Name.{Name}
-use Rattle.tlsf_crew.specs.declared.worker.worker.Worker.{Worker}
-use Rattle.tlsf_crew.specs.declared.worker.lanes.Lanes.{Lanes}
-use Rattle.tlsf_calls.specs.declared.entry.Entry.{Entry}
-use Rattle.tlsf_calls.specs.declared.event.Event.{Event}
-use Rattle.tlsf_calls.specs.declared.call.Call.{Call}
-use Rattle.tlsf_calls.specs.declared.call.Call.TheVariants.{Release, Take, Drain}
-use Rattle.tlsf_calls.specs.declared.reply.Reply.{Reply}
+use Rattle.tlsf_crew.specs.Common.{TakeEnd, ready, Name, Entry, Event, Call, Release, Take, Drain, Reply, Worker, Lanes}
 use Rattle.tlsf_crew.specs.lanes.Yard.{IsYard, take_at, waits_in, world_of}
 use Rattle.tlsf_crew.specs.model.World.{name_of, made_by, after, DrainState, Replayed}
 

@@ -1,10 +1,6 @@
 -- How many entries events can make.
 use Rattle.std.specs.Prelude.{◌≡◌, ◌<◌, ℕ, ◌+◌, List, length, Bool, true, false, slice_index}
-use Rattle.std.specs.List.{count_by}
-use Rattle.tlsf_crew.specs.declared.worker.lanes.Lanes.{Lanes}
-use Rattle.tlsf_calls.specs.declared.call.Call.{Call}
-use Rattle.tlsf_calls.specs.declared.call.Call.TheVariants.{Allocate, Release, Write, Read, Resize, Take, Drain}
-use Rattle.tlsf_calls.specs.declared.event.Event.{Event}
+use Rattle.tlsf_crew.specs.Common.{count_by, Call, Allocate, Release, Write, Read, Resize, Take, Drain, Event, Lanes}
 use Rattle.tlsf_crew.specs.lanes.LaneWorkers.{lane_from}
 use Rattle.tlsf_crew.specs.model.World.{World}
 use Rattle.tlsf_crew.specs.model.Sums.{waiting_count}

@@ -1,10 +1,7 @@
 -- A journal: the posts of a drain that it admits, and the entries for them. This serves the contracts and proofs of private
 -- functions alone.
 use Rattle.std.specs.Prelude.{◌≡◌, ◌≢◌, ℕ, ◌+◌, ◌<◌, ◌≤◌, List, [], ◌∷◌, ◌++◌, slice_index, Option, Some, None, vec_len, vec_capacity}
-use Rattle.tlsf_crew.specs.declared.scripts.journal.Journal.{Journal}
-use Rattle.tlsf_calls.specs.declared.took.Took.{Took}
-use Rattle.tlsf_calls.specs.declared.call.Call.TheVariants.{Take}
-use Rattle.tlsf_calls.specs.declared.reply.Reply.TheVariants.{Took as Taken}
+use Rattle.tlsf_crew.specs.Common.{Took, Take, Taken, Journal}
 use Rattle.tlsf_crew.specs.model.Sums.{sum_of}
 
 -- one post more may be taken

@@ -1,22 +1,6 @@
 -- The answers and effects of the calls of one worker over lanes. This serves the contracts and proofs of private functions alone.
 use Rattle.std.specs.Prelude.{◌≡◌, ◌≢◌, ◌⊎◌, ℕ, zero, suc, ◌+◌, ◌<◌, ◌≤◌, List, [], ◌∷◌, ◌++◌, length, take, slice_index, Option, Some, None, ◌==◌, if◌then◌else◌}
-use Rattle.std.specs.List.{fold}
-use mathlib.Core.List.{IsPrefix}
-use Rattle.tlsf_post.specs.declared.post.Post.{Post}
-use Rattle.tlsf_post.specs.declared.post_end.PostEnd.{PostEnd}
-use Rattle.tlsf_post.specs.declared.take_end.TakeEnd.{TakeEnd}
-use Rattle.tlsf_post.specs.Lanes.{posts_sent, free_slots, waited, taken, ready}
-use Rattle.tlsf_heap.specs.Blocks.{HeapState}
-use Rattle.tlsf_heap.specs.declared.name.Name.{Name}
-use Rattle.tlsf_crew.specs.declared.worker.worker.Worker.{Worker}
-use Rattle.tlsf_crew.specs.declared.worker.lanes.Lanes.{Lanes}
-use Rattle.tlsf_calls.specs.declared.entry.Entry.{Entry}
-use Rattle.tlsf_calls.specs.declared.took.Took.{Took}
-use Rattle.tlsf_calls.specs.declared.call.Call.{Call}
-use Rattle.tlsf_calls.specs.declared.call.Call.TheVariants.{Take, Drain}
-use Rattle.tlsf_calls.specs.declared.reply.Reply.{Reply}
-use Rattle.tlsf_calls.specs.declared.reply.Reply.TheVariants.{Took as Taken, Empty, Drained, Refused}
-use Rattle.tlsf_calls.specs.declared.crew_refusal.CrewRefusal.TheVariants.{Full}
+use Rattle.tlsf_crew.specs.Common.{fold, IsPrefix, Post, PostEnd, TakeEnd, posts_sent, free_slots, waited, taken, ready, HeapState, Name, Entry, Took, Call, Take, Drain, Reply, Taken, Empty, Drained, Refused, Full, Worker, Lanes}
 use Rattle.tlsf_crew.specs.model.Heaps.{released}
 use Rattle.tlsf_crew.specs.worker.Workers.{heap_of, id_of}
 use Rattle.tlsf_crew.specs.lanes.LaneWorkers.{id_and_capacity, end_to, end_from, HasTake, KnowsYard}

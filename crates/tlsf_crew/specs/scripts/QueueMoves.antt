@@ -1,22 +1,10 @@
 -- The answers and effects of the calls of one worker over queues. This serves the contracts and proofs of private functions alone.
 use Rattle.std.specs.Prelude.{◌≡◌, ℕ, ◌+◌, ◌<◌, ◌≤◌, List, ◌++◌, length, Option, Some, slice_index}
-use mathlib.Core.List.{IsPrefix}
-use Rattle.tlsf_post.specs.Rule.{posts_of}
-use Rattle.tlsf_post.specs.Mailboxes.{put_by, gone_from, plan_of, got_by, known_to, IsOnlyPoster}
-use Rattle.tlsf_post.specs.declared.poster_end.PosterEnd.{PosterEnd}
-use Rattle.tlsf_heap.specs.declared.name.Name.{Name}
-use Rattle.tlsf_calls.specs.declared.entry.Entry.{Entry}
-use Rattle.tlsf_calls.specs.declared.call.Call.{Call}
-use Rattle.tlsf_calls.specs.declared.call.Call.TheVariants.{Drain}
-use Rattle.tlsf_calls.specs.declared.reply.Reply.{Reply}
-use Rattle.tlsf_calls.specs.declared.crew_refusal.CrewRefusal.TheVariants.{Full}
-use Rattle.tlsf_calls.specs.declared.reply.Reply.TheVariants.{Drained, Refused}
+use Rattle.tlsf_crew.specs.Common.{IsPrefix, posts_of, put_by, gone_from, plan_of, got_by, known_to, IsOnlyPoster, PosterEnd, Name, Entry, Call, Drain, Reply, Full, Drained, Refused, Worker, Queues}
 use Rattle.tlsf_crew.specs.model.Sums.{sum_of}
 use Rattle.tlsf_crew.specs.histories.History.{posts_made, posts_taken, StandsBehind}
 pub use Rattle.tlsf_crew.specs.scripts.Scripts.{told_of, entry_by}
 use Rattle.tlsf_crew.specs.scripts.Scripts.{Stage, Step, ScriptPromise}
-use Rattle.tlsf_crew.specs.declared.worker.worker.Worker.{Worker}
-use Rattle.tlsf_crew.specs.declared.queues.queues.Queues.{Queues}
 use Rattle.tlsf_crew.specs.queues.QueueWorkers.{queue_end_to, KeepsQueueYards, KnowsQueueYard}
 use Rattle.tlsf_crew.specs.model.QueueProgress.{MayTellQueue}
 

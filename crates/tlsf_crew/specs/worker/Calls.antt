@@ -1,22 +1,11 @@
 -- The answers and effects of a worker's own calls.
 use Rattle.std.specs.Prelude.{◌≡◌, ◌≢◌, ℕ, ◌+◌, ◌≤◌, List, [], ◌∷◌, Option, Some, None, Result, Ok, Err}
-use Rattle.tlsf_heap.specs.Blocks.{HeapState}
-use Rattle.tlsf_heap.specs.Calls.{released}
+use Rattle.tlsf_crew.specs.Common.{HeapState, released, Seen, Name, Refusal, Foreign, Post, CrewRefusal, Heap, Full, Stranger, Released, Took, Worker}
 use Rattle.tlsf_heap.specs.Effects.{Releases}
 use Rattle.tlsf_heap.specs.Footprint.{LeavesLive}
 use Rattle.tlsf_heap.specs.InPlace.{IsRefusedAsRead}
-use Rattle.tlsf_heap.specs.Shown.{Seen}
 use Rattle.tlsf_heap.specs.Touched.{FollowsNoForgery, release_touches}
-use Rattle.tlsf_heap.specs.declared.name.Name.{Name}
-use Rattle.tlsf_heap.specs.declared.refusal.Refusal.{Refusal}
-use Rattle.tlsf_heap.specs.declared.refusal.Refusal.TheVariants.{Foreign}
-use Rattle.tlsf_post.specs.declared.post.Post.{Post}
-use Rattle.tlsf_calls.specs.declared.crew_refusal.CrewRefusal.{CrewRefusal}
-use Rattle.tlsf_calls.specs.declared.crew_refusal.CrewRefusal.TheVariants.{Heap, Full, Stranger}
-use Rattle.tlsf_calls.specs.declared.released.Released.{Released}
 use Rattle.tlsf_calls.specs.declared.released.Released.TheVariants.{Freed, Posted}
-use Rattle.tlsf_calls.specs.declared.took.Took.{Took}
-use Rattle.tlsf_crew.specs.declared.worker.worker.Worker.{Worker}
 use Rattle.tlsf_crew.specs.worker.Workers.{heap_of, id_of, seen_of, shown_of, SameButHeap, SameButPorts}
 
 -- the heap's answer as the worker's

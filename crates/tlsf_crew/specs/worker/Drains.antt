@@ -1,10 +1,7 @@
 -- The heap that a drain leaves, and its counts.
 use Rattle.std.specs.Prelude.{◌≡◌, ◌≤◌, ℕ, List, length, Bool, is_ok}
-use Rattle.std.specs.List.{fold, count_by}
-use Rattle.tlsf_heap.specs.Blocks.{HeapState}
-use Rattle.tlsf_heap.specs.Calls.{released}
+use Rattle.tlsf_crew.specs.Common.{fold, count_by, HeapState, released, Took}
 use Rattle.tlsf_calls.specs.declared.drained.Drained.{Drained}
-use Rattle.tlsf_calls.specs.declared.took.Took.{Took}
 
 abbrev pub is_freed : Took → Bool
 is_freed took = is_ok took.answer

@@ -1,10 +1,7 @@
 -- The notes of a drain on the posts that it takes. This serves the contracts and proofs of private functions alone.
 use Rattle.std.specs.Prelude.{◌≡◌, ℕ, zero, suc, ◌-◌, ◌*◌, ◌<◌, ◌⊎◌, List, [], ◌∷◌, ◌++◌, length, Option, Some, None}
+use Rattle.tlsf_crew.specs.Common.{Took, Post, Extent, Worker}
 use Rattle.tlsf_calls.specs.declared.drained.Drained.{Drained}
-use Rattle.tlsf_calls.specs.declared.took.Took.{Took}
-use Rattle.tlsf_post.specs.declared.post.Post.{Post}
-use Rattle.tlsf_crew.specs.declared.worker.worker.Worker.{Worker}
-use Rattle.tlsf_words.specs.Memory.{Extent}
 use Rattle.tlsf_crew.specs.worker.Workers.{id_of, SameButPorts, WorksWithin}
 use Rattle.tlsf_crew.specs.worker.Calls.{TakenFrom}
 use Rattle.tlsf_crew.specs.worker.Drains.{AreFew, IsCountOf}

@@ -1,6 +1,6 @@
 -- The sizes of a yard.
 use Rattle.std.specs.Prelude.{ℕ, ◌≤◌, ◌↔◌, Result, IsErrOf}
-use Rattle.tlsf_heap.specs.Lawful.{IsRegion}
+use Rattle.tlsf_crew.specs.Common.{IsRegion}
 use Rattle.tlsf_heap.specs.declared.open_fault.OpenFault.{OpenFault}
 use Rattle.tlsf_heap.specs.declared.open_fault.OpenFault.TheVariants.{BadSize, Worn}
 

@@ -1,8 +1,6 @@
 -- The ports after a slice of posts that a drain takes at once. This serves the contracts and proofs of private functions alone.
 use Rattle.std.specs.Prelude.{◌≡◌, ℕ, zero, suc, ◌<◌, List, [], ◌∷◌, Option, Some, None, ⊤}
-use Rattle.tlsf_calls.specs.declared.took.Took.{Took}
-use Rattle.tlsf_post.specs.declared.post.Post.{Post}
-use Rattle.tlsf_crew.specs.declared.worker.worker.Worker.{Worker}
+use Rattle.tlsf_crew.specs.Common.{Took, Post, Worker}
 use Rattle.tlsf_crew.specs.worker.Calls.{AfterTake}
 use Rattle.tlsf_crew.specs.worker.Workers.{id_of}
 

@@ -1,13 +1,7 @@
 -- The view of a worker: its heap and its number.
 use Rattle.std.specs.Prelude.{◌≡◌, ℕ, ◌+◌, List, [], ◌∷◌, Option, Some, None, ◌<◌, ◌≤◌, ◌≢◌, vec_capacity}
+use Rattle.tlsf_crew.specs.Common.{Vec, Global, Extent, HeapState, IsLawful, Seen, Shown, seen, Worker}
 use Rattle.std.specs.Vec.{vec_ptr}
-use Rattle.std.specs.declared.vec.Vec.{Vec}
-use Rattle.std.specs.declared.alloc.Global.{Global}
-use Rattle.tlsf_words.specs.Memory.{Extent}
-use Rattle.tlsf_heap.specs.Blocks.{HeapState}
-use Rattle.tlsf_heap.specs.Lawful.{IsLawful}
-use Rattle.tlsf_heap.specs.Shown.{Seen, Shown, seen}
-use Rattle.tlsf_crew.specs.declared.worker.worker.Worker.{Worker}
 
 abbrev pub heap_of : {sli : ℕ} {P : Type 0} → Worker sli P → HeapState
 heap_of a = a.heap.heap

@@ -6,7 +6,6 @@ ghost use Rattle.tlsf_crew.specs.scripts.EntryRoom.{entry_room};
 ghost use Rattle.tlsf_crew.specs.lanes.Yard.{IsYard, shown_in, waits_in, world_of};
 ghost use Rattle.tlsf_crew.specs.model.World.{after, replies, replies_behind};
 ghost use Rattle.tlsf_crew.specs.model.Targets.{target_name};
-ghost use Rattle.tlsf_crew.specs.fair_runs.FairRuns.{IsFairRun, NoneStale, WaitLive};
 ghost use Rattle.tlsf_crew.specs.lanes.Settle.{HasWorker, KeepsWorld, LaneSettled};
 ghost use Rattle.tlsf_crew.specs.replays.ReplaySteps.{replay_of, Concerns, AreLimits, IsReplied};
 
@@ -123,8 +122,8 @@ fn run_event<const SLI: u32>(
 /// Before and after each release of another's name and each take the lane concerned is settled. So a lane is full
 /// exactly where its capacity of posts waits, and empty exactly where none does.
 ///
-/// Let nothing wait at the start, and each target be made by an earlier event and not yet released or posted. Then no answer is
-/// `Stale`, and each post that waits in the end names a live block. So no block is given again while a post of it waits.
+/// Where each target was made by an earlier event and not yet released or posted, no answer is `Stale`. This is a law of its own
+/// (`tlsf_yard_laws::no_fair_run_is_stale`).
 ///
 /// - `room`: the room for all entries is made first. There is one for each event, for each release among them and for each post
 ///   that waits at the start. Where it answers `NoMemory`, no event has run.
@@ -139,7 +138,6 @@ pub fn replay_events<const SLI: u32>(
     ensures entries { IfOk result (λ entries. entries.items ≡ (replies (world_of workers.old) events.now).entries) }
     ensures world { OnOk result (world_of workers.new ≡ (replies (world_of workers.old) events.now).world) }
     ensures no_memory { OnErr result (world_of workers.new ≡ world_of workers.old) }
-    ensures no_stale { IsFairRun (world_of workers.old) events.now → IfOk result (λ entries. NoneStale entries.items × WaitLive (world_of workers.new)) }
     ensures others { (x : ℕ) → All (λ event. event.worker ≢ x) events.now → shown_in workers.new x ≡ shown_in workers.old x }
 
     // This much memory is asked for, and no more.

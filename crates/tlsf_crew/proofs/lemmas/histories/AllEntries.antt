@@ -1,7 +1,5 @@
 -- The entries of a replay tell its events, the calls on each heap and the posts of each lane, and leave each heap lawful.
-use Rattle.tlsf_crew.proofs.Common.{zero, suc, [], ◌∷◌, ◌++◌, ◌≡◌, ◌≢◌, ℕ, ◌<◌, ◌≤◌, List, Option, Some, None, All, length, get_or, sym, ◌∙◌, ap, arith, refl, inl, inr, subst, append_assoc, append-nil, fold, cases_lt, All-nil, All-cons, IsLawful, Name, bytes_of, Entry, Event, Call, Allocate, Release, Write, Read, Resize, Take, Drain, Reply, Refused, Stranger, AreLawful, Tells, TellsCall, TellsEvent, TookFromOther, answer_told, call_on_own, calls_on, post_of_release, post_of_take, World, Replayed, after, allocating, begun, called, draining, heap_in, name_of, reading_named, releasing_named, replies, resizing_named, taking, writing_named}
-use Rattle.tlsf_heap.proofs.lemmas.calls.Outcomes.{lawful_run}
-use Rattle.tlsf_calls.specs.declared.target.Target.TheVariants.{Named, Made as MadeBy, Absent}
+use Rattle.tlsf_crew.proofs.Common.{zero, suc, [], ◌∷◌, ◌++◌, ◌≡◌, ◌≢◌, ℕ, ◌<◌, ◌≤◌, List, Option, Some, None, All, length, get_or, sym, ◌∙◌, ap, arith, refl, inl, inr, subst, append_assoc, append-nil, fold, cases_lt, All-nil, All-cons, IsLawful, Name, bytes_of, Entry, Event, Call, Allocate, Release, Write, Read, Resize, Take, Drain, Reply, Refused, Stranger, AreLawful, Tells, TellsCall, TellsEvent, TookFromOther, answer_told, call_on_own, calls_on, post_of_release, post_of_take, World, Replayed, after, allocating, begun, called, draining, heap_in, name_of, reading_named, releasing_named, replies, resizing_named, taking, writing_named, lawful_run, MadeBy}
 use Rattle.tlsf_crew.proofs.lemmas.histories.DrainEntries.{ToldOnce, drain_told}
 use Rattle.tlsf_crew.proofs.lemmas.model.EventSteps.{after_far, after_near}
 use Rattle.tlsf_crew.proofs.lemmas.histories.LaneCalls.{release_told, take_told}
@@ -17,9 +15,8 @@ name_stays (x ∷ xs) ys zero name e = e
 name_stays (x ∷ xs) ys (suc k) name e = name_stays xs ys k name e
 
 pub more_knows : (xs ys : List (Option Name)) → Knows (xs ++ ys) xs
-more_knows xs ys (Named name) n e = e
 more_knows xs ys (MadeBy k) n e = name_stays xs ys k n e
-more_knows xs ys Absent n e = e
+more_knows xs ys target n e = e
 
 drain_knows : {sli : ℕ} (r : Replayed sli) (at most : ℕ) → Knows (draining r at most).made r.made
 unfolding draining

@@ -1,6 +1,5 @@
 -- The entries of a drain tell the posts that it took and the releases of their names.
-use Rattle.tlsf_crew.proofs.Common.{zero, suc, [], ◌∷◌, ◌++◌, ◌≡◌, ◌≢◌, ℕ, ◌+◌, ◌-◌, ◌<◌, ◌≤◌, List, Option, None, All, length, take, drop, sym, ◌∙◌, ap, arith, refl, inl, inr, subst, append_assoc, append-nil, length-append, length-take, fold, cases_eq, take-append-drop, All-append, All-cons, All-nil, Name, Post, Entry, Take, Drain, Took, Drained, AreTakes, TellsCall, TookFromOther, IsDrain, post_of_release, posts_made, Replayed, DrainState, took, took_more, drained_waiting, drained_below, after_drain, draining}
-use Rattle.tlsf_calls.specs.declared.reply.Reply.TheVariants.{Took as Taken}
+use Rattle.tlsf_crew.proofs.Common.{zero, suc, [], ◌∷◌, ◌++◌, ◌≡◌, ◌≢◌, ℕ, ◌+◌, ◌-◌, ◌<◌, ◌≤◌, List, Option, None, All, length, take, drop, sym, ◌∙◌, ap, arith, refl, inl, inr, subst, append_assoc, append-nil, length-append, length-take, fold, cases_eq, take-append-drop, All-append, All-cons, All-nil, Name, Post, Entry, Take, Drain, Took, Drained, AreTakes, TellsCall, TookFromOther, IsDrain, post_of_release, posts_made, Replayed, DrainState, took, took_more, drained_waiting, drained_below, after_drain, draining, Taken}
 use Rattle.tlsf_crew.proofs.lemmas.histories.LaneCalls.{took_told}
 use Rattle.tlsf_crew.proofs.lemmas.model.OneEvent.{from_other, from_own}
 use Rattle.tlsf_crew.proofs.lemmas.histories.OwnCalls.{none_done}

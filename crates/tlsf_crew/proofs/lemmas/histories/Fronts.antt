@@ -1,7 +1,6 @@
 -- The world after some of the entries of a replay, after which the others come.
-use Rattle.tlsf_crew.proofs.Common.{[], ◌∷◌, ◌++◌, ◌≡◌, ℕ, ◌+◌, ◌<◌, List, Option, All, length, map, take, drop, sym, ◌∙◌, ap, arith, refl, inl, inr, subst, length-append, take-append_seam, drop-append_seam, cases_eq, length-map, map-append, All-head, All-tail, All-take, IsLevel, HeapState, IsLawful, Name, Entry, Event, AreLawful, RunsThrough, RunsTo, answer_told, answers_on, call_on_own, calls_on, handed_on, World, heap_in, replies}
+use Rattle.tlsf_crew.proofs.Common.{[], ◌∷◌, ◌++◌, ◌≡◌, ℕ, ◌+◌, ◌<◌, List, Option, All, length, map, take, drop, sym, ◌∙◌, ap, arith, refl, inl, inr, subst, length-append, take-append_seam, drop-append_seam, cases_eq, length-map, map-append, All-head, All-tail, All-take, IsLevel, HeapState, IsLawful, Name, Entry, Event, AreLawful, RunsThrough, RunsTo, answer_told, answers_on, call_on_own, calls_on, handed_on, World, heap_in, replies, lawful_run}
 use Rattle.tlsf_heap.specs.Calls as heap
-use Rattle.tlsf_heap.proofs.lemmas.calls.Outcomes.{lawful_run}
 use Rattle.tlsf_crew.proofs.lemmas.histories.AllEntries.{replies_tell}
 use Rattle.tlsf_crew.proofs.lemmas.histories.JoinedEntries.{HasItsAnswer, length_run, run_more, told_other, told_own, told_then}
 

@@ -1,7 +1,7 @@
 -- The entry of a release tells the call on its own heap or the post that it made. The entry of a take tells the post that it took.
-use Rattle.tlsf_crew.proofs.Common.{◌==◌, true, false, [], ◌∷◌, ◌++◌, ◌≡◌, ◌≢◌, ℕ, ◌<◌, List, Option, Some, None, Result, Ok, Err, length, sym, ◌∙◌, ap, arith, refl, inl, inr, append-nil, cons_option, cases_eq, cases_lt, nat_tests, length-set, Name, Refusal, Post, Entry, Release, Take, Target, Reply, Freed, Posted, Empty, Refused, Full, Stranger, Unmade, released, answer_told, call_on_own, meant, name_on_heap, post_of_release, post_of_take, posts_made, posts_taken, World, heap_in, with_heap, with_waiting, freeing, posting, releasing_named, taking, taking_next, took, took_first, reply_freed, name_of}
+use Rattle.tlsf_crew.proofs.Common.{◌==◌, true, false, [], ◌∷◌, ◌++◌, ◌≡◌, ◌≢◌, ℕ, ◌<◌, List, Option, Some, None, Result, Ok, Err, length, sym, ◌∙◌, ap, arith, refl, inl, inr, append-nil, cons_option, cases_eq, nat_tests, length-set, Name, Refusal, Post, Entry, Release, Take, Target, Reply, Freed, Posted, Empty, Refused, Full, Stranger, Unmade, released, answer_told, call_on_own, meant, name_on_heap, post_of_release, post_of_take, posts_made, posts_taken, World, heap_in, with_heap, with_waiting, freeing, posting, releasing_named, taking, took, reply_freed, name_of}
 use Rattle.tlsf_heap.specs.Calls as heap
-use Rattle.tlsf_crew.proofs.lemmas.model.OneEvent.{releasing_post, releasing_far, taking_lane, taking_own, taking_far}
+use Rattle.tlsf_crew.proofs.lemmas.model.OneEvent.{posting_by, releasing_by, taking_by}
 use Rattle.tlsf_crew.proofs.lemmas.model.Edits.{edited_same, edited_other}
 use Rattle.tlsf_crew.proofs.lemmas.histories.OwnCalls.{Tells1, by_meant, done_here, done_told, none_done}
 use Rattle.tlsf_crew.proofs.lemmas.histories.JoinedEntries.{history_quiet, own_each, heap_of_own_call, told_nothing, told_other, told_own}
@@ -79,34 +79,21 @@ posted_lanes made w at target name known i j =
 
 post_told : {sli : ℕ} (made : List (Option Name)) (w : World sli) (at : ℕ) (target : Target) (name : Name) → name.heap ≢ at → name_of made target ≡ Some name
     → Tells1 made w at (Release target) (posting w at name)
-unfolding posting
 post_told made w at target name ne known =
     let away = of_other at name ne in
-    let x : Post = record { from = at; name = name } in
-    elim (cases_eq (length (w.waiting at name.heap)) w.capacity) [
-      | inl e ↦
-          let b : (length (w.waiting at name.heap) == w.capacity) ≡ true = grind (arith, nat_tests) in
-          rw b (refused_told made w at target (Refused (Full name)) (rw (known, away) refl) refl (λ j. refl))
-      | inr e ↦
-          let b : (length (w.waiting at name.heap) == w.capacity) ≡ false = grind (arith, nat_tests) in
-          let v = with_waiting w at name.heap (w.waiting at name.heap ++ x ∷ []) in
-          let entry : Entry = record { worker = at; call = Release target; reply = Posted } in
-          let own = none_done made w v at (Release target) Posted (rw (known, away) refl) refl refl in
-          rw b (record { heaps = λ j j_in. heap_of_own_call made w v entry own j; posts = posted_lanes made w at target name known; count = refl; each = own_each made w v entry (length w.heaps) own })
-    ]
+    posting_by (Tells1 made w at (Release target)) w at name (λ full. refused_told made w at target (Refused (Full name)) (rw (known, away) refl) refl (λ j. refl)) (λ room.
+    let v = with_waiting w at name.heap (w.waiting at name.heap ++ record { from = at; name = name } ∷ []) in
+    let entry : Entry = record { worker = at; call = Release target; reply = Posted } in
+    let own = none_done made w v at (Release target) Posted (rw (known, away) refl) refl refl in
+    record { heaps = λ j j_in. heap_of_own_call made w v entry own j; posts = posted_lanes made w at target name known; count = refl; each = own_each made w v entry (length w.heaps) own })
 
 pub release_told : {sli : ℕ} (made : List (Option Name)) (w : World sli) (at : ℕ) (target : Target) (o : Option Name) → at < length w.heaps
     → ((name : Name) → o ≡ Some name → name_of made target ≡ Some name) → Tells1 made w at (Release target) (releasing_named w at o)
 release_told made w at target None at_in known = refused_told made w at target (Refused Unmade) refl refl (λ j. refl)
 release_told made w at target (Some name) at_in known =
     let k = known name refl in
-    elim (cases_eq name.heap at) [
-      | inl own ↦ let b : (name.heap == at) ≡ true = grind (arith, nat_tests) in rw b (own_release_told made w at target name at_in own k)
-      | inr ne ↦ elim (cases_lt name.heap (length w.heaps)) [
-        | inl lt ↦ rw (releasing_post w at name ne lt) (post_told made w at target name ne k)
-        | inr ge ↦ rw (releasing_far w at name ne ge) (refused_told made w at target (Refused Stranger) (rw (k, of_other at name ne) refl) refl (λ j. refl))
-      ]
-    ]
+    releasing_by (Tells1 made w at (Release target)) w at name (λ own. own_release_told made w at target name at_in own k) (λ ne lt. post_told made w at target name ne k)
+    (λ ne ge. refused_told made w at target (Refused Stranger) (rw (k, of_other at name ne) refl) refl (λ j. refl))
 
 -- ---- take
 
@@ -167,20 +154,7 @@ untaken_told made w at from reply a b c =
     history_quiet made w w (record { worker = at; call = Take from; reply = reply }) (none_done made w w at (Take from) reply a b refl)
     (record { made_none = λ j. refl; taken_none = c }) refl refl
 
-took_first_told : {sli : ℕ} (made : List (Option Name)) (w : World sli) (at from : ℕ) (ps : List Post) → at < length w.heaps → w.waiting from at ≡ ps → Tells1 made w at (Take from) (took_first w at from ps)
-took_first_told made w at from [] at_in waits = untaken_told made w at from Empty refl refl (λ i. refl)
-took_first_told made w at from (p ∷ rest) at_in waits = took_told made w at from p rest at_in waits
-
-next_told : {sli : ℕ} (made : List (Option Name)) (w : World sli) (at from : ℕ) → at < length w.heaps → Tells1 made w at (Take from) (taking_next w at from)
-unfolding taking_next
-next_told made w at from at_in = took_first_told made w at from (w.waiting from at) at_in refl
-
 pub take_told : {sli : ℕ} (made : List (Option Name)) (w : World sli) (at from : ℕ) → at < length w.heaps → Tells1 made w at (Take from) (taking w at from)
 take_told made w at from at_in =
-    elim (cases_eq from at) [
-      | inl e ↦ rw (taking_own w at from e) (untaken_told made w at from (Refused Stranger) refl refl (λ i. refl))
-      | inr e ↦ elim (cases_lt from (length w.heaps)) [
-        | inl lt ↦ rw (taking_lane w at from e lt) (next_told made w at from at_in)
-        | inr ge ↦ rw (taking_far w at from ge) (untaken_told made w at from (Refused Stranger) refl refl (λ i. refl))
-      ]
-    ]
+    taking_by (Tells1 made w at (Take from)) w at from (untaken_told made w at from (Refused Stranger) refl refl (λ i. refl)) (untaken_told made w at from Empty refl refl (λ i. refl))
+    (λ p rest ne lt e. took_told made w at from p rest at_in e)

@@ -1,7 +1,6 @@
 -- From whom no lane comes nothing is taken.
-use Rattle.tlsf_crew.proofs.Common.{suc, zero, [], ◌∷◌, ◌++◌, ◌≡◌, ◌≢◌, ℕ, ◌-◌, ◌≤◌, List, None, length, take, drop, ◌∙◌, ap, subst, arith, refl, inl, inr, ◌==◌, false, fold, cases_eq, nat_tests, Post, Entry, Call, Take, Drain, Reply, post_of_take, posts_taken, World, DrainState, Replayed, took, took_more, taking, drained_waiting, drained_below, after_drain, draining, called, Progress, MayTell, MayTellAll}
-use Rattle.tlsf_calls.specs.declared.reply.Reply.TheVariants.{Took as Taken}
-use Rattle.tlsf_crew.proofs.lemmas.model.OneEvent.{from_other, from_own, taking_own, taking_far}
+use Rattle.tlsf_crew.proofs.Common.{[], ◌∷◌, ◌++◌, ◌≡◌, ◌≢◌, ℕ, ◌≤◌, List, None, length, drop, ◌∙◌, ap, subst, arith, refl, inl, inr, ◌==◌, false, cases_eq, nat_tests, Entry, Call, Take, Drain, Reply, post_of_take, posts_taken, World, DrainState, Replayed, took, taking, after_drain, draining, called, Progress, MayTell, MayTellAll, Taken}
+use Rattle.tlsf_crew.proofs.lemmas.model.OneEvent.{drain_by, taking_own, taking_far}
 use Rattle.tlsf_crew.proofs.lemmas.histories.JoinedEntries.{told_nothing, taken_then}
 
 other_take : (i from : ℕ) (reply : Reply) → from ≢ i → post_of_take i (Take from) reply ≡ None
@@ -15,32 +14,13 @@ none_more i at es e none silent =
 
 -- ---- drains
 
-lane_none : {sli : ℕ} (i at from : ℕ) (ps : List Post) (d : DrainState sli) → from ≢ i → posts_taken i at d.entries ≡ [] → posts_taken i at (fold (took_more at from) d ps).entries ≡ []
-lane_none i at from [] d ne none = none
-lane_none i at from (p ∷ ps) d ne none =
-    lane_none i at from ps (took_more at from d p) ne (none_more i at d.entries _ none (other_take i from (took d.world at from p (drop 1 (d.world.waiting from at))).reply ne))
-
-lane_takes_none : {sli : ℕ} (i at most from : ℕ) (d : DrainState sli) → from ≢ i → posts_taken i at d.entries ≡ [] → posts_taken i at (drained_waiting at most from d).entries ≡ []
-unfolding drained_waiting
-lane_takes_none i at most from d ne none = lane_none i at from (take (most - d.taken) (d.world.waiting from at)) d ne none
-
-none_from_below : {sli : ℕ} (i at most n : ℕ) (d : DrainState sli) (k : ℕ) → (i ≢ at → n ≤ i) → k ≤ n → posts_taken i at d.entries ≡ [] → posts_taken i at (drained_below at most d k).entries ≡ []
-none_from_below i at most n d zero far le none = none
-none_from_below i at most n d (suc k) far le none =
-    let b = drained_below at most d k in
-    let first = none_from_below i at most n d k far (omega arith) none in
-    elim (cases_eq k at) [
-      | inl e ↦ rw (from_own at most b k e) first
-      | inr e ↦
-          let apart : k ≢ i = λ f. let h : n ≤ i = far (λ g. e (f ∙ g)) in omega arith in
-          rw (from_other at most b k e) (lane_takes_none i at most k b apart first)
-    ]
-
 draining_takes_none : {sli : ℕ} (i at most : ℕ) (r : Replayed sli) → (i ≢ at → length r.world.heaps ≤ i) → posts_taken i at r.entries ≡ [] → posts_taken i at (draining r at most).entries ≡ []
-unfolding draining after_drain
+unfolding draining
 draining_takes_none {sli} i at most r far none =
     let d : DrainState sli = record { entries = r.entries; world = r.world; taken = 0 } in
-    none_more i at (drained_below at most d (length r.world.heaps)).entries _ (none_from_below i at most (length r.world.heaps) d (length r.world.heaps) far (omega arith) none) refl
+    none_more i at (after_drain at most d).entries _ (drain_by (λ b. posts_taken i at b.entries ≡ []) at most d (λ from b p lt ne full so_far.
+    let apart : from ≢ i = λ f. let h : length r.world.heaps ≤ i = far (λ g. ne (f ∙ g)) in omega arith in
+    none_more i at b.entries _ so_far (other_take i from (took b.world at from p (drop 1 (b.world.waiting from at))).reply apart)) none) refl
 
 -- ---- calls
 

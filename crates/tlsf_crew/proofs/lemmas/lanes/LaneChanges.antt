@@ -3,7 +3,7 @@ use Rattle.tlsf_crew.proofs.Common.{◌≡◌, ℕ, ◌<◌, List, Some, length,
 use Rattle.tlsf_crew.proofs.lemmas.worker.Slots.{get_set_same, get_set_other, some_same, none_or_some}
 use Rattle.tlsf_crew.proofs.lemmas.lanes.LaneSlots.{heap_at, same_parts, map_same}
 use Rattle.tlsf_crew.proofs.lemmas.lanes.Signed.{AreFrom, same_signed, changed_signed}
-use Rattle.tlsf_crew.proofs.lemmas.model.Edits.{same_world, edited_same, edited_other}
+use Rattle.tlsf_crew.proofs.lemmas.model.Edits.{same_world, edited_same, edited_other, cases_both}
 
 -- each worker has a lawful heap of its number
 abbrev pub OwnHeaps : {sli : ℕ} → List (Worker sli Lanes) → Type 0
@@ -37,12 +37,9 @@ pub changed_world : {sli : ℕ} (ws vs : List (Worker sli Lanes)) (i j : ℕ) (p
 unfolding world_of
 changed_world ws vs i j p t q u ps c e =
     same_world (world_of vs) (with_waiting (world_of ws) i j ps) c.heaps (λ x y.
-    elim (cases_eq x i) [
-      | inl xi ↦ elim (cases_eq y j) [
-        | inl yj ↦ rw (xi, yj, c.new_post_is, c.new_take_is) (e ∙ sym (edited_same (world_of ws).waiting i j ps))
-        | inr yj ↦ let s = c.same x y (λ _ f. yj f) in rw (s.0, s.1) (sym (edited_other (world_of ws).waiting i j x y ps (λ _ f. yj f)))
-      ]
-      | inr xi ↦ let s = c.same x y (λ f _. xi f) in rw (s.0, s.1) (sym (edited_other (world_of ws).waiting i j x y ps (λ f _. xi f)))
+    elim (cases_both x i y j) [
+      | inl at ↦ rw (at.0, at.1, c.new_post_is, c.new_take_is) (e ∙ sym (edited_same (world_of ws).waiting i j ps))
+      | inr away ↦ let s = c.same x y away in rw (s.0, s.1) (sym (edited_other (world_of ws).waiting i j x y ps away))
     ]) (ap (λ (l : List (ℕ × ℕ)). (get_or l 0 (0, 0)).1) c.numbers)
 
 pub waits_between : {sli : ℕ} (ws : List (Worker sli Lanes)) (i j : ℕ) (p : PostEnd) (t : TakeEnd) → post_at ws i j ≡ Some p → take_at ws i j ≡ Some t
@@ -57,16 +54,13 @@ changed_lanes ws vs i j p t q u c yard x y x_in y_in ne =
     let a : x < length ws = omega (arith, c.len) in
     let b : y < length ws = omega (arith, c.len) in
     let h = yard.lanes x y a b ne in
-    elim (cases_eq x i) [
-      | inl xi ↦ elim (cases_eq y j) [
-        | inl yj ↦
-            let here : post_at ws i j ≡ Some h.0 = subst (λ (z : ℕ). post_at ws z j ≡ Some h.0) xi (subst (λ (z : ℕ). post_at ws x z ≡ Some h.0) yj h.2) in
-            let e : h.0 ≡ p = some_same h.0 p (sym here ∙ c.post_is) in
-            let k : capacity_of q ≡ capacity_in vs = c.capacity ∙ (sym (ap capacity_of e) ∙ (h.5 ∙ sym same_capacity)) in
-            rw (xi, yj) (q, u, c.new_post_is, c.new_take_is, c.lane, k)
-        | inr yj ↦ let s = c.same x y (λ _ f. yj f) in (h.0, h.1, s.0 ∙ h.2, s.1 ∙ h.3, h.4, h.5 ∙ sym same_capacity)
-      ]
-      | inr xi ↦ let s = c.same x y (λ f _. xi f) in (h.0, h.1, s.0 ∙ h.2, s.1 ∙ h.3, h.4, h.5 ∙ sym same_capacity)
+    elim (cases_both x i y j) [
+      | inl at ↦
+          let here : post_at ws i j ≡ Some h.0 = subst (λ (z : ℕ). post_at ws z j ≡ Some h.0) at.0 (subst (λ (z : ℕ). post_at ws x z ≡ Some h.0) at.1 h.2) in
+          let e : h.0 ≡ p = some_same h.0 p (sym here ∙ c.post_is) in
+          let k : capacity_of q ≡ capacity_in vs = c.capacity ∙ (sym (ap capacity_of e) ∙ (h.5 ∙ sym same_capacity)) in
+          rw (at.0, at.1) (q, u, c.new_post_is, c.new_take_is, c.lane, k)
+      | inr away ↦ let s = c.same x y away in (h.0, h.1, s.0 ∙ h.2, s.1 ∙ h.3, h.4, h.5 ∙ sym same_capacity)
     ]
 
 changed_outside : {sli : ℕ} (ws vs : List (Worker sli Lanes)) (i j : ℕ) (p : PostEnd) (t : TakeEnd) (q : PostEnd) (u : TakeEnd)

@@ -1,9 +1,8 @@
 -- Takes one after another from a lane, and from lane after lane, make up a drain.
-use Rattle.tlsf_crew.proofs.Common.{◌++◌, ◌≡◌, ◌-◌, ℕ, zero, suc, List, Option, Some, None, length, refl, sym, ◌∙◌, ap, subst, inl, inr, fold-append, HeapState, Post, PostEnd, Took, Worker, Lanes, end_from, lane_to, TookThrough, lane_places, heap_of, id_of, AfterTake, TakesInTurn, TakenFromLane, KeepsYards, PutsIntoLane, heap_after, SourceNoted, TurnNoted, EachNoted, AllNoted}
+use Rattle.tlsf_crew.proofs.Common.{◌++◌, ◌≡◌, ◌-◌, ℕ, zero, suc, List, Option, Some, None, length, refl, sym, ◌∙◌, ap, subst, inl, inr, fold-append, HeapState, Post, PostEnd, Took, Worker, Lanes, end_from, lane_to, TookThrough, lane_places, heap_of, id_of, AfterTake, TakesInTurn, TakenFromLane, KeepsYards, PutsIntoLane, heap_after, SourceNoted, TurnNoted, EachNoted, AllNoted, lane_rules}
 use Rattle.tlsf_heap.specs.Calls.{released}
 use Rattle.tlsf_calls.specs.declared.drained.Drained.{Drained}
 use Rattle.tlsf_crew.specs.lanes.LaneTurns.{LaneDrained, TurnDrained, EachLaneDrained, DrainedAll}
-use Rattle.tlsf_crew.specs.lanes.LaneNotes.{lane_rules}
 use Rattle.tlsf_crew.proofs.lemmas.worker.PortsKept.{Keeping}
 use Rattle.tlsf_crew.proofs.lemmas.worker.Slots.{end_or}
 use Rattle.tlsf_crew.proofs.lemmas.worker.SourceTurns.{none_heap, takes_heap, takes_of, turns_keep}

@@ -1,10 +1,8 @@
 -- Where all lanes were laid, row by row, the yard is whole and its world is the opened one.
-use Rattle.tlsf_crew.proofs.Common.{suc, zero, [], ◌∷◌, ◌++◌, ◌≡◌, ◌≢◌, ℕ, ◌+◌, ◌<◌, List, Option, Some, None, length, get_or, set, replicate, sym, ◌∙◌, ap, map, arith, refl, inl, inr, subst, ◌≤◌, slice_get, range_with_len, slice_get_past, cases_eq, map-append, length-replicate, length-set, All-nil, IsLevel, Post, PostEnd, TakeEnd, posts_sent, free_slots, capacity_of, waited, taken, ready, IsLane, Worker, Lanes, post_at, take_at, capacity_in, lane_waits, IsYard, heap_of_worker, world_of, no_heap, opened_heaps, opened_world, slot_of, heap_of, id_and_capacity, IsBefore, IsLaid, opened_numbers, HeapState, opened}
-use Rattle.std.proofs.lemmas.List.FromFn.{map-range_with_len_more, get_or-map-range_with_len}
-use Rattle.tlsf_crew.specs.worker.Sizes.{AreSizes}
+use Rattle.tlsf_crew.proofs.Common.{suc, zero, [], ◌∷◌, ◌++◌, ◌≡◌, ◌≢◌, ℕ, ◌+◌, ◌<◌, List, Option, Some, None, length, get_or, set, replicate, sym, ◌∙◌, ap, map, arith, refl, inl, inr, subst, ◌≤◌, slice_get, range_with_len, slice_get_past, cases_eq, map-append, length-replicate, length-set, All-nil, IsLevel, Post, PostEnd, TakeEnd, posts_sent, free_slots, capacity_of, waited, taken, ready, IsLane, Worker, Lanes, post_at, take_at, capacity_in, lane_waits, IsYard, heap_of_worker, world_of, no_heap, opened_heaps, opened_world, slot_of, heap_of, id_and_capacity, IsBefore, IsLaid, opened_numbers, HeapState, opened, map-range_with_len_more, get_or-map-range_with_len, AreSizes}
 use Rattle.tlsf_crew.proofs.lemmas.worker.Slots.{get_set_same, get_set_other, some_same, none_or_some, slot_new, slot_other, no_slot}
 use Rattle.tlsf_crew.proofs.lemmas.lanes.LaneSlots.{map_same}
-use Rattle.tlsf_crew.proofs.lemmas.model.Edits.{same_world}
+use Rattle.tlsf_crew.proofs.lemmas.model.Edits.{same_world, cases_both}
 use Rattle.tlsf_crew.proofs.lemmas.lanes.OneEnd.{posts_set, takes_set}
 use Rattle.tlsf_crew.proofs.lemmas.worker.OwnHeaps.{opened_lawful}
 
@@ -30,13 +28,9 @@ before_more i j x y b away =
 end_laid : {E : Type 0} (P : E → Type 0) (old new : ℕ → ℕ → Option E) (i j : ℕ) (e : E) → new i j ≡ Some e → ((x y : ℕ) → (x ≡ i → y ≡ j → ⊥) → new x y ≡ old x y) → P e
     → ((x y : ℕ) (q : E) → old x y ≡ Some q → P q) → (x y : ℕ) (q : E) → new x y ≡ Some q → P q
 end_laid P old new i j e here others own before x y q is =
-    let other : (x ≡ i → y ≡ j → ⊥) → P q = λ away. before x y q (sym (others x y away) ∙ is) in
-    elim (cases_eq x i) [
-      | inl xi ↦ elim (cases_eq y j) [
-        | inl yj ↦ subst P (some_same e q (rw (xi, yj, here) at is)) own
-        | inr yj ↦ other (λ _ f. yj f)
-      ]
-      | inr xi ↦ other (λ f _. xi f)
+    elim (cases_both x i y j) [
+      | inl at ↦ subst P (some_same e q (rw (at.0, at.1, here) at is)) own
+      | inr away ↦ before x y q (sym (others x y away) ∙ is)
     ]
 
 -- worker i got its end to put into a new lane to worker j, and worker j then its end to take from it
@@ -101,12 +95,9 @@ lane_laid ws n words capacity i j v w l g =
       numbers = map_same id_and_capacity us j b w b_is b_same.1 ∙ (map_same id_and_capacity ws i a v a_is a_same.1 ∙ l.numbers);
       slots = slots_set us n j w j_len slots_u w_slots;
       empty = λ x y.
-          elim (cases_eq x i) [
-            | inl xi ↦ elim (cases_eq y j) [
-              | inl yj ↦ rw (xi, yj, post_here, second.here) nothing
-              | inr yj ↦ rw (post_other x y (λ _ f. yj f), take_other x y (λ _ f. yj f)) (l.empty x y)
-            ]
-            | inr xi ↦ rw (post_other x y (λ f _. xi f), take_other x y (λ f _. xi f)) (l.empty x y)
+          elim (cases_both x i y j) [
+            | inl at ↦ rw (at.0, at.1, post_here, second.here) nothing
+            | inr away ↦ rw (post_other x y away, take_other x y away) (l.empty x y)
           ];
       free = end_laid (λ q. free_slots q ≡ capacity) (post_at ws) (post_at vs) i j p post_here post_other g.size.1 l.free;
       fresh = record {
@@ -115,14 +106,9 @@ lane_laid ws n words capacity i j v w l g =
       };
       alone = λ x. let away : x ≡ i → x ≡ j → ⊥ = λ a b. ne (sym a ∙ b) in (post_other x x away ∙ (l.alone x).0, take_other x x away ∙ (l.alone x).1);
       laid = λ x y x_in y_in apart before.
-          elim (cases_eq x i) [
-            | inl xi ↦ elim (cases_eq y j) [
-              | inl yj ↦ rw (xi, yj) (p, t, post_here, second.here, g.lane, g.size.0)
-              | inr yj ↦ let h = l.laid x y x_in y_in apart (before_more i j x y before (λ _ f. yj f)) in
-                  (h.0, h.1, post_other x y (λ _ f. yj f) ∙ h.2, take_other x y (λ _ f. yj f) ∙ h.3, h.4, h.5)
-            ]
-            | inr xi ↦ let h = l.laid x y x_in y_in apart (before_more i j x y before (λ f _. xi f)) in
-                (h.0, h.1, post_other x y (λ f _. xi f) ∙ h.2, take_other x y (λ f _. xi f) ∙ h.3, h.4, h.5)
+          elim (cases_both x i y j) [
+            | inl at ↦ rw (at.0, at.1) (p, t, post_here, second.here, g.lane, g.size.0)
+            | inr away ↦ let h = l.laid x y x_in y_in apart (before_more i j x y before away) in (h.0, h.1, post_other x y away ∙ h.2, take_other x y away ∙ h.3, h.4, h.5)
           ];
     }
 

@@ -1,5 +1,6 @@
 -- Each post that waits in a lane was posted by the worker at the lane's other end.
-use Rattle.tlsf_crew.proofs.Common.{suc, zero, [], ◌∷◌, ◌++◌, ◌≡◌, ℕ, ◌+◌, List, Option, Some, None, Result, Ok, Err, length, drop, sym, ◌∙◌, ap, inl, inr, All, cases_eq, append_assoc, length_push, drop-drop, All-nil, All-push, All-drop, Post, PostEnd, TakeEnd, posts_sent, waited, taken, Worker, Lanes, PostEndPut, TakeEndTook, post_at, take_at, lane_waits, LaneChange, SameLane}
+use Rattle.tlsf_crew.proofs.Common.{suc, zero, [], ◌∷◌, ◌++◌, ◌≡◌, ℕ, ◌+◌, List, Option, Some, None, Result, Ok, Err, length, drop, sym, ◌∙◌, ap, inl, inr, All, append_assoc, length_push, drop-drop, All-nil, All-push, All-drop, Post, PostEnd, TakeEnd, posts_sent, waited, taken, Worker, Lanes, PostEndPut, TakeEndTook, post_at, take_at, lane_waits, LaneChange, SameLane}
+use Rattle.tlsf_crew.proofs.lemmas.model.Edits.{cases_both}
 
 -- each of the posts was posted by worker i
 abbrev pub AreFrom : ℕ → List Post → Type 0
@@ -17,12 +18,9 @@ same_signed ws vs same signed i j = let s = same i j in rw (s.0, s.1) (signed i 
 pub changed_signed : {sli : ℕ} (ws vs : List (Worker sli Lanes)) (i j : ℕ) (p : PostEnd) (t : TakeEnd) (q : PostEnd) (u : TakeEnd)
     → LaneChange ws vs i j p t q u → AreFrom i (lane_waits (Some q) (Some u)) → AreSigned ws → AreSigned vs
 changed_signed ws vs i j p t q u c new signed x y =
-    elim (cases_eq x i) [
-      | inl xi ↦ elim (cases_eq y j) [
-        | inl yj ↦ rw (xi, yj, c.new_post_is, c.new_take_is) new
-        | inr yj ↦ let s = c.same x y (λ _ f. yj f) in rw (s.0, s.1) (signed x y)
-      ]
-      | inr xi ↦ let s = c.same x y (λ f _. xi f) in rw (s.0, s.1) (signed x y)
+    elim (cases_both x i y j) [
+      | inl at ↦ rw (at.0, at.1, c.new_post_is, c.new_take_is) new
+      | inr away ↦ let s = c.same x y away in rw (s.0, s.1) (signed x y)
     ]
 
 from_push : (i n : ℕ) (ps : List Post) (p : Post) → p.from ≡ i → AreFrom i (drop n ps) → AreFrom i (drop n (ps ++ p ∷ []))

@@ -1,5 +1,5 @@
 -- The answers to a list of events don't depend on the entries before it: they stay in front. So a list can be run in parts.
-use Rattle.tlsf_crew.proofs.Common.{zero, suc, [], ◌∷◌, ◌++◌, ◌≡◌, ℕ, ◌-◌, ◌+◌, List, Option, None, length, take, drop, sym, ◌∙◌, ap, refl, inl, inr, append_assoc, append-nil, fold, cases_eq, cases_lt, fold-append, Name, Post, Entry, Event, Call, Allocate, Release, Write, Read, Resize, Take, Drain, Drained, World, WorldReply, Replayed, DrainState, made_by, took, took_more, drained_waiting, drained_below, after_drain, draining, answered, called, after, replies, resumed, replies_behind}
+use Rattle.tlsf_crew.proofs.Common.{zero, suc, [], ◌∷◌, ◌++◌, ◌≡◌, ℕ, ◌-◌, ◌+◌, List, Option, None, length, take, drop, sym, ◌∙◌, ap, refl, inl, inr, append_assoc, append-nil, fold, cases_eq, cases_lt, fold-append, Name, Post, Entry, Event, Call, Take, Drain, Drained, World, WorldReply, Replayed, DrainState, made_by, took, took_more, drained_waiting, drained_below, after_drain, draining, answered, called, after, replies, resumed, replies_behind}
 use Rattle.tlsf_crew.proofs.lemmas.model.EventSteps.{after_far, after_near}
 use Rattle.tlsf_crew.proofs.lemmas.model.OneEvent.{from_other, from_own}
 
@@ -62,13 +62,8 @@ draining_behind {sli} es r at most =
     ∙ ap (λ (l : List Entry). run_so_far (r.made ++ None ∷ []) l d.world) (append_assoc es d.entries (own_entry at most d ∷ []))
 
 called_behind : {sli : ℕ} (es : List Entry) (r : Replayed sli) (at : ℕ) (call : Call) → called (behind es r) at call ≡ behind es (called r at call)
-called_behind es r at (Allocate len) = answered_behind es r at (Allocate len) _
-called_behind es r at (Release target) = answered_behind es r at (Release target) _
-called_behind es r at (Write target from bytes) = answered_behind es r at (Write target from bytes) _
-called_behind es r at (Read target from n) = answered_behind es r at (Read target from n) _
-called_behind es r at (Resize target len) = answered_behind es r at (Resize target len) _
-called_behind es r at (Take from) = answered_behind es r at (Take from) _
 called_behind es r at (Drain most) = draining_behind es r at most
+called_behind es r at call = answered_behind es r at call _
 
 after_behind : {sli : ℕ} (es : List Entry) (r : Replayed sli) (e : Event) → after (behind es r) e ≡ behind es (after r e)
 after_behind es r e =

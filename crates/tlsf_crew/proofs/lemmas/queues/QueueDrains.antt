@@ -1,9 +1,7 @@
 -- Takes one after another from a queue make up a drain.
-use Rattle.tlsf_crew.proofs.Common.{◌≡◌, ◌<◌, ◌⊎◌, ℕ, List, Option, Some, None, length, refl, sym, ◌∙◌, ap, subst, inl, inr, Post, PosterEnd, Took, IsCountOf, Worker, Queues, heap_of, SameButPorts, AfterTake, TakenFrom, SourceEnds, SourceNoted, queue_to, KeepsQueueYards, PutsIntoQueue, AsksQueue}
+use Rattle.tlsf_crew.proofs.Common.{◌≡◌, ◌<◌, ◌⊎◌, ℕ, List, Option, Some, None, length, refl, sym, ◌∙◌, ap, subst, inl, inr, Post, PosterEnd, Took, IsCountOf, Worker, Queues, heap_of, SameButPorts, AfterTake, TakenFrom, SourceEnds, SourceNoted, queue_to, KeepsQueueYards, PutsIntoQueue, AsksQueue, TakenFromQueue, DrainedQueue, queue_rules, StopsAtQueue}
 use Rattle.tlsf_heap.specs.Calls as heap
 use Rattle.tlsf_calls.specs.declared.drained.Drained.{Drained}
-use Rattle.tlsf_crew.specs.queues.QueueCalls.{TakenFromQueue, DrainedQueue}
-use Rattle.tlsf_crew.specs.queues.QueueNotes.{queue_rules, StopsAtQueue}
 use Rattle.tlsf_crew.proofs.lemmas.worker.OwnHeaps.{call_keeps}
 use Rattle.tlsf_crew.proofs.lemmas.worker.PortsKept.{Keeping}
 use Rattle.tlsf_crew.proofs.lemmas.worker.Slots.{end_or}

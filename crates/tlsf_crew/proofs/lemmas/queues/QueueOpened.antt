@@ -1,9 +1,6 @@
 -- Where each worker was given its end to each other queue, the yard is whole and nothing waits in it.
-use Rattle.tlsf_crew.proofs.Common.{suc, zero, [], ◌∷◌, ◌++◌, ◌≡◌, ◌≢◌, ℕ, ◌+◌, ◌<◌, ◌≤◌, List, Option, Some, None, All, length, get_or, set, drop, replicate, sym, ◌∙◌, ap, map, arith, refl, inl, inr, ◌⊎◌, subst, append_assoc, Vec, Global, slice_get, range_with_len, slice_get-get_or, slice_get_within, cases_eq, cases_lt, length-append, length-map, length-replicate, length-set, map-append, same_from_push, same_lists, append-nil, All-head, All-tail, IsLevel, HeapState, opened, posts_of, below_but, number_of, put_by, owner_of, out_of, most_of, got_by, known_to, IsMailbox, IsWhole, OwnerEnd, Post, PosterEnd, Worker, Queues, opened_heaps, opened_world, slot_of, heap_of, id_of, IsHeapOf, queue_end_to, FitsQueueYard, IsQueueYard, first_capacity, queue_capacity_in, queue_end_in, queue_waits_in, queue_world_of, waits_of, AreUngiven, AreFreshQueues, AreGiven, GaveEnds, GotEnd, IsNewQueueWorker}
-use Rattle.std.proofs.lemmas.List.FromFn.{get_or-map-range_with_len, length-range_with_len}
-use Rattle.tlsf_crew.specs.worker.Sizes.{AreSizes}
+use Rattle.tlsf_crew.proofs.Common.{suc, zero, [], ◌∷◌, ◌++◌, ◌≡◌, ◌≢◌, ℕ, ◌+◌, ◌<◌, ◌≤◌, List, Option, Some, None, All, length, get_or, set, drop, replicate, sym, ◌∙◌, ap, map, arith, refl, inl, inr, ◌⊎◌, subst, append_assoc, Vec, Global, slice_get, range_with_len, slice_get-get_or, slice_get_within, cases_eq, cases_lt, length-append, length-map, length-replicate, length-set, map-append, same_from_push, same_lists, append-nil, All-head, All-tail, IsLevel, HeapState, opened, posts_of, below_but, number_of, put_by, owner_of, out_of, most_of, got_by, known_to, IsMailbox, IsWhole, OwnerEnd, Post, PosterEnd, Worker, Queues, opened_heaps, opened_world, slot_of, heap_of, id_of, IsHeapOf, queue_end_to, FitsQueueYard, IsQueueYard, first_capacity, queue_capacity_in, queue_end_in, queue_waits_in, queue_world_of, waits_of, AreUngiven, AreFreshQueues, AreGiven, GaveEnds, GotEnd, IsNewQueueWorker, get_or-map-range_with_len, length-range_with_len, AreSizes, but_more, but_skip}
 use Rattle.tlsf_post.proofs.RoundSteps.{no_items}
-use Rattle.tlsf_post.proofs.Numbers.{but_more, but_skip}
 use Rattle.tlsf_crew.proofs.lemmas.worker.Slots.{at_push, no_slot, get_set_same, get_set_other, none_or_some, slot_new, slot_other, some_same, some_at}
 use Rattle.tlsf_crew.proofs.lemmas.worker.OwnHeaps.{opened_lawful}
 

@@ -1,6 +1,5 @@
 -- Once all ends of a queue were side by side, its owner knows what was put into it, and all else of the yard stays.
-use Rattle.tlsf_crew.proofs.Common.{suc, zero, [], ◌∷◌, ◌++◌, ◌≡◌, ◌≢◌, ℕ, ◌+◌, ◌<◌, ◌≤◌, List, Option, Some, None, All, length, get_or, set, sym, ◌∙◌, ap, map, arith, refl, inl, inr, ◌⊎◌, subst, slice_get, Vec, Global, option_to_list, slice_get-get_or, slice_get_within, cases_eq, cases_lt, append-nil, length-set, map-append, All-append, All-cons, All-head, All-nil, All-tail, posts_of, below_but, number_of, put_by, gone_from, owner_of, out_of, most_of, got_by, known_to, IsMailbox, IsWhole, AllBeside, OwnerEnd, Post, PosterEnd, Worker, Queues, IsOther, slot_of, id_of, IsHeapOf, queue_end_to, KnowsQueueYard, FitsQueueYard, IsQueueYard, first_capacity, queue_capacity_in, queue_end_in, GaveEnds, GotEnd, Gathered, GaveUpEnd, QueueKnown, QueueSettled, EachQueueSettled, StaysPut, StaysSettled, end_at, ends_below}
-use Rattle.tlsf_post.proofs.Numbers.{but_more, but_skip}
+use Rattle.tlsf_crew.proofs.Common.{suc, zero, [], ◌∷◌, ◌++◌, ◌≡◌, ◌≢◌, ℕ, ◌+◌, ◌<◌, ◌≤◌, List, Option, Some, None, All, length, get_or, set, sym, ◌∙◌, ap, map, arith, refl, inl, inr, ◌⊎◌, subst, slice_get, Vec, Global, option_to_list, slice_get-get_or, slice_get_within, cases_eq, cases_lt, append-nil, length-set, map-append, All-append, All-cons, All-head, All-nil, All-tail, posts_of, below_but, number_of, put_by, gone_from, owner_of, out_of, most_of, got_by, known_to, IsMailbox, IsWhole, AllBeside, OwnerEnd, Post, PosterEnd, Worker, Queues, IsOther, slot_of, id_of, IsHeapOf, queue_end_to, KnowsQueueYard, FitsQueueYard, IsQueueYard, first_capacity, queue_capacity_in, queue_end_in, GaveEnds, GotEnd, Gathered, GaveUpEnd, QueueKnown, QueueSettled, EachQueueSettled, StaysPut, StaysSettled, end_at, ends_below, but_more, but_skip}
 use Rattle.tlsf_crew.proofs.lemmas.queues.QueueOpened.{holds_of_member}
 use Rattle.tlsf_crew.proofs.lemmas.worker.Slots.{from_slot, get_set_same, get_set_other, none_or_some, slot_emptied, slot_new, slot_other, some_same, some_at}
 

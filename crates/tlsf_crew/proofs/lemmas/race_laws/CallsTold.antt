@@ -1,6 +1,5 @@
 -- The entries of some calls of a worker, whatever its ports: they tell each call, and the history of its heap.
-use Rattle.tlsf_crew.proofs.Common.{[], ◌∷◌, ◌++◌, ◌≡◌, ℕ, ◌<◌, List, Option, All, length, sym, ◌∙◌, ap, arith, refl, subst, append_assoc, append-nil, All-nil, All-append, IsLevel, HeapState, IsLawful, Name, Call, Entry, AreLawful, RunsThrough, RunsTo, answer_told, answers_on, call_on_own, calls_on, AllTold, Progress, untold, World, heap_in, record_of}
-use Rattle.tlsf_heap.proofs.lemmas.calls.Outcomes.{lawful_run}
+use Rattle.tlsf_crew.proofs.Common.{[], ◌∷◌, ◌++◌, ◌≡◌, ℕ, ◌<◌, List, Option, All, length, sym, ◌∙◌, ap, arith, refl, subst, append_assoc, append-nil, All-nil, All-append, IsLevel, HeapState, IsLawful, Name, Call, Entry, AreLawful, RunsThrough, RunsTo, answer_told, answers_on, call_on_own, calls_on, AllTold, Progress, untold, World, heap_in, record_of, lawful_run}
 use Rattle.tlsf_crew.proofs.lemmas.histories.Fronts.{runs_through}
 use Rattle.tlsf_crew.proofs.lemmas.histories.JoinedEntries.{HasItsAnswer, runs_then, told_then}
 use Rattle.tlsf_crew.proofs.lemmas.histories.OwnCalls.{Knows}

@@ -1,7 +1,6 @@
 -- Two races over queues of the same scripts, which take no post, are the same where each queue has one poster. Of more than two
 -- workers none may meet a full queue.
-use Rattle.tlsf_crew.proofs.Common.{[], ◌∷◌, ◌++◌, ◌≡◌, ◌≢◌, ℕ, ◌+◌, ◌-◌, ◌<◌, ◌≤◌, List, Option, Some, None, length, sym, ◌∙◌, ap, arith, refl, inl, inr, subst, append_assoc, append-nil, length-append, AllByRecursion, cons_option, fold, cases_eq, cases_lt, ext_get_or, Name, posts_of, Post, Call, Take, Drain, Entry, Drained, no_heap, World, after, begun, heap_in, Progress, MayTell, MayTellAll, told_by, untold, post_of_release, posts_made, posts_taken, OnlyLastDrains, TakesNoPost, events_by, last_call, script_of, record_of, IsQueueRace, MayTellQueue, MayTellQueueAll, with_reply, with_takes}
-use Rattle.tlsf_post.proofs.RuleSteps.{parts}
+use Rattle.tlsf_crew.proofs.Common.{[], ◌∷◌, ◌++◌, ◌≡◌, ◌≢◌, ℕ, ◌+◌, ◌-◌, ◌<◌, ◌≤◌, List, Option, Some, None, length, sym, ◌∙◌, ap, arith, refl, inl, inr, subst, append_assoc, append-nil, length-append, AllByRecursion, cons_option, fold, cases_eq, cases_lt, ext_get_or, Name, posts_of, Post, Call, Take, Drain, Entry, Drained, no_heap, World, after, begun, heap_in, Progress, MayTell, MayTellAll, told_by, untold, post_of_release, posts_made, posts_taken, OnlyLastDrains, TakesNoPost, events_by, last_call, script_of, record_of, IsQueueRace, MayTellQueue, MayTellQueueAll, with_reply, with_takes, parts}
 use Rattle.tlsf_crew.specs.race_laws.QueueAlone.{IsUncontendedRace, MeetsNoFull, QueueRaceIsOne}
 use Rattle.tlsf_crew.proofs.lemmas.histories.JoinedEntries.{told_nothing, told_other, told_own, made_then}
 use Rattle.tlsf_crew.proofs.lemmas.model.Edits.{same_world}

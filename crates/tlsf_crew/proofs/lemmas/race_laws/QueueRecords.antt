@@ -1,5 +1,5 @@
 -- A record over queues tells the calls of its script and the history of its worker's heap.
-use Rattle.tlsf_crew.proofs.Common.{[], ◌∷◌, ◌++◌, ◌≡◌, ◌≢◌, ℕ, suc, ◌<◌, ◌≤◌, List, Option, None, All, length, sym, ◌∙◌, ap, arith, refl, subst, append_assoc, append-nil, All-nil, All-cons, All-head, All-tail, All-append, HeapState, Name, Post, Call, Allocate, Release, Write, Read, Resize, Take, Drain, Entry, Stranger, Drained, Refused, released, AreLawful, RunsThrough, RunsTo, answer_told, answers_on, call_on_own, calls_on, posts_made, posts_taken, Progress, World, heap_in, last_call, script_of, record_of, IsFromOther, MayTellQueue, take_entry, with_reply, with_take, with_takes, IsQueueRace}
+use Rattle.tlsf_crew.proofs.Common.{[], ◌∷◌, ◌++◌, ◌≡◌, ◌≢◌, ℕ, suc, ◌<◌, ◌≤◌, List, Option, None, All, length, sym, ◌∙◌, ap, arith, refl, subst, append_assoc, append-nil, All-nil, All-cons, All-head, All-tail, All-append, HeapState, Name, Post, Call, Take, Drain, Entry, Stranger, Drained, Refused, released, AreLawful, RunsThrough, RunsTo, answer_told, answers_on, call_on_own, calls_on, posts_made, posts_taken, Progress, World, heap_in, last_call, script_of, record_of, IsFromOther, MayTellQueue, take_entry, with_reply, with_take, with_takes, IsQueueRace}
 use Rattle.tlsf_crew.specs.histories.QueueHistory.{AreQueueTakes, TellsQueue, TellsQueueCall}
 use Rattle.tlsf_crew.proofs.lemmas.histories.AllEntries.{more_knows}
 use Rattle.tlsf_crew.proofs.lemmas.histories.JoinedEntries.{HasItsAnswer, told_nothing, told_own}
@@ -110,36 +110,20 @@ drained_queue {sli} made n at s t most posts all few e =
     })
 
 queue_call_told : {sli : ℕ} (made : List (Option Name)) (n at : ℕ) (s t : Progress) (call : Call) → at < n → Knows made s.made → MayTellQueue sli n at s call t → CallTold (by_queues sli n at) sli made s call t
-queue_call_told made n at s t (Allocate len) at_in known m =
-    let o = one_told made n at s t (Allocate len) at_in known m in
-    record { own = o.own; name = o.name; entries = o.entries; names = o.names; tells = o.tells.near at_in; run = o.run; each = o.each }
-queue_call_told made n at s t (Release target) at_in known m =
-    let o = one_told made n at s t (Release target) at_in known m in
-    record { own = o.own; name = o.name; entries = o.entries; names = o.names; tells = o.tells.near at_in; run = o.run; each = o.each }
-queue_call_told made n at s t (Write target from bytes) at_in known m =
-    let o = one_told made n at s t (Write target from bytes) at_in known m in
-    record { own = o.own; name = o.name; entries = o.entries; names = o.names; tells = o.tells.near at_in; run = o.run; each = o.each }
-queue_call_told made n at s t (Read target from k) at_in known m =
-    let o = one_told made n at s t (Read target from k) at_in known m in
-    record { own = o.own; name = o.name; entries = o.entries; names = o.names; tells = o.tells.near at_in; run = o.run; each = o.each }
-queue_call_told made n at s t (Resize target len) at_in known m =
-    let o = one_told made n at s t (Resize target len) at_in known m in
-    record { own = o.own; name = o.name; entries = o.entries; names = o.names; tells = o.tells.near at_in; run = o.run; each = o.each }
 queue_call_told made n at s t (Take from) at_in known m = refused_take made n at s t from m
 queue_call_told made n at s t (Drain most) at_in known m = drained_queue made n at s t most m.0 m.1 m.2 m.3
+queue_call_told made n at s t call at_in known m =
+    let o = one_told made n at s t call at_in known m in
+    record { own = o.own; name = o.name; entries = o.entries; names = o.names; tells = o.tells.near at_in; run = o.run; each = o.each }
 
 -- ---- all calls
 
 -- names that were made stay known
 queue_knows_one : (sli : ℕ) (n at : ℕ) (s t : Progress) (call : Call) → MayTellQueue sli n at s call t → Knows t.made s.made
-queue_knows_one sli n at s t (Allocate len) m = knows_one sli n at s t (Allocate len) m
-queue_knows_one sli n at s t (Release target) m = knows_one sli n at s t (Release target) m
-queue_knows_one sli n at s t (Write target from bytes) m = knows_one sli n at s t (Write target from bytes) m
-queue_knows_one sli n at s t (Read target from k) m = knows_one sli n at s t (Read target from k) m
-queue_knows_one sli n at s t (Resize target len) m = knows_one sli n at s t (Resize target len) m
 queue_knows_one sli n at s t (Take from) m = subst (λ (made : List (Option Name)). Knows made s.made) (sym (ap (λ (u : Progress). u.made) m)) (more_knows s.made (None ∷ []))
 queue_knows_one sli n at s t (Drain most) m =
     subst (λ (made : List (Option Name)). Knows made s.made) (ap (λ l. l ++ None ∷ []) (sym (takes_name at m.0 s)) ∙ sym (ap (λ (u : Progress). u.made) m.3)) (more_knows s.made (None ∷ []))
+queue_knows_one sli n at s t call m = knows_one sli n at s t call m
 
 queues_tell_each : {sli n at : ℕ} → at < n → TellsEach (by_queues sli n at) sli
 queues_tell_each {sli} {n} {at} at_in = record { knows = queue_knows_one sli n at; told = λ made s t call known m. queue_call_told made n at s t call at_in known m }

@@ -1,12 +1,11 @@
 -- Two drains of the same heap that took the same posts are the same.
-use Rattle.tlsf_crew.proofs.Common.{◌==◌, true, false, zero, suc, [], ◌∷◌, ◌++◌, ◌≡◌, ◌≢◌, ◌-◌, ℕ, ◌<◌, ◌≤◌, List, Option, Some, None, length, take, sym, ◌∙◌, ap, arith, refl, inl, inr, subst, append-nil, length-append, cons_option, fold, nat_tests, cases_eq, cases_lt, HeapState, Name, Post, Take, Drain, Entry, Drained, Took, Replayed, DrainState, after_drain, drained_below, drained_waiting, draining, heap_in, took_more, Progress, MayTell, AreTakes, IsDrain, RunsTo, answer_told, answers_on, call_on_own, calls_on, post_of_take, posts_taken, last_call}
+use Rattle.tlsf_crew.proofs.Common.{◌==◌, true, false, [], ◌∷◌, ◌++◌, ◌≡◌, ◌≢◌, ◌-◌, ℕ, ◌<◌, ◌≤◌, List, Option, Some, None, length, take, sym, ◌∙◌, ap, arith, refl, inl, inr, subst, append-nil, length-append, cons_option, fold, nat_tests, cases_eq, cases_lt, HeapState, Name, Post, Take, Drain, Entry, Drained, Took, Replayed, DrainState, drained_waiting, draining, heap_in, took_more, Progress, MayTell, AreTakes, IsDrain, RunsTo, answer_told, answers_on, call_on_own, calls_on, post_of_take, posts_taken, last_call, Taken}
 use Rattle.tlsf_heap.specs.Calls as heap
-use Rattle.tlsf_calls.specs.declared.reply.Reply.TheVariants.{Took as Taken}
 use Rattle.tlsf_crew.proofs.lemmas.histories.DrainEntries.{drain_makes, drain_told}
 use Rattle.tlsf_crew.proofs.lemmas.races.TwoRecords.{drain_takes}
 use Rattle.tlsf_crew.proofs.lemmas.histories.JoinedEntries.{told_nothing, told_own, told_then, taken_then}
 use Rattle.tlsf_crew.proofs.lemmas.model.Edits.{edited_other}
-use Rattle.tlsf_crew.proofs.lemmas.model.OneEvent.{from_other, from_own}
+use Rattle.tlsf_crew.proofs.lemmas.model.OneEvent.{drain_by}
 
 -- ---- what takes tell
 
@@ -134,19 +133,10 @@ unfolding drained_waiting
 lane_apart at most from x d ne = more_apart at from x (take (most - d.taken) (d.world.waiting from at)) d ne
 
 -- its own lane, and those from workers past the last
-below_apart : {sli : ℕ} (at most x : ℕ) (d : DrainState sli) (k : ℕ) → (x ≢ at → k ≤ x) → (drained_below at most d k).world.waiting x at ≡ d.world.waiting x at
-below_apart at most x d zero far = refl
-below_apart at most x d (suc k) far =
-    let b = drained_below at most d k in
-    let low : x ≢ at → k ≤ x = λ ne. let le = far ne in omega arith in
-    elim (cases_eq k at) [
-      | inl e ↦ rw (from_own at most b k e) (below_apart at most x d k low)
-      | inr ne ↦ rw (from_other at most b k ne) (lane_apart at most k x b (λ e. let le = far (λ f. ne (sym e ∙ f)) in absurd (omega arith)) ∙ below_apart at most x d k low)
-    ]
-
 pub drain_apart : {sli : ℕ} (r : Replayed sli) (at most x : ℕ) → (x ≢ at → length r.world.heaps ≤ x) → (draining r at most).world.waiting x at ≡ r.world.waiting x at
-unfolding draining after_drain
-drain_apart r at most x far = below_apart at most x (record { entries = r.entries; world = r.world; taken = 0 }) (length r.world.heaps) far
+unfolding draining
+drain_apart r at most x far = drain_by (λ b. b.world.waiting x at ≡ r.world.waiting x at) at most (record { entries = r.entries; world = r.world; taken = 0 }) (λ from b p lt ne full same.
+    edited_other b.world.waiting from at x at _ (λ e _. let le = far (λ f. ne (sym e ∙ f)) in absurd (omega arith)) ∙ same) refl
 
 -- nothing was put in front
 pub nothing_before : {X : Type 0} (xs ys : List X) → ys ≡ xs ++ ys → xs ≡ []

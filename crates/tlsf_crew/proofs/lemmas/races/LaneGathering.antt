@@ -1,6 +1,5 @@
 -- Where each worker over lanes ran its script, the yard is whole, and each record has its room.
-use Rattle.tlsf_crew.proofs.Common.{[], ◌≡◌, ℕ, ◌≤◌, List, Option, Some, length, subst, append-nil, suc, ◌∷◌, ◌++◌, ◌+◌, map, set, slice_index, vec_capacity, sym, ◌∙◌, ap, arith, refl, append_assoc, take_all, length-map, TakeEnd, ready, Name, Worker, Lanes, Entry, Call, id_of, end_from, KnowsYard, LaneWorkerRan, EachLaneWorkerRan, HaveRooms, posts_taken, LaneMoved, Spent, lane_promise, ScriptRun, at_stage, script_of, slice_get, All, Vec, Global, set-append_seam, slice_get_within, get_or_from_slice_get, IsYard, AreLaneLimits, releases_of, count_of, ready_from, record_of, KnowsSome, KeepsYards, EachJobRan}
-use mathlib.Core.List.{IsPrefix}
+use Rattle.tlsf_crew.proofs.Common.{[], ◌≡◌, ℕ, ◌≤◌, List, Option, Some, length, subst, append-nil, suc, ◌∷◌, ◌++◌, ◌+◌, map, set, slice_index, vec_capacity, sym, ◌∙◌, ap, arith, refl, append_assoc, take_all, length-map, TakeEnd, ready, Name, Worker, Lanes, Entry, Call, id_of, end_from, KnowsYard, LaneWorkerRan, EachLaneWorkerRan, HaveRooms, posts_taken, LaneMoved, Spent, lane_promise, ScriptRun, at_stage, script_of, slice_get, All, Vec, Global, set-append_seam, slice_get_within, get_or_from_slice_get, IsYard, AreLaneLimits, releases_of, count_of, ready_from, record_of, KnowsSome, KeepsYards, EachJobRan, IsPrefix}
 use Rattle.tlsf_crew.proofs.lemmas.worker.Slots.{some_same}
 use Rattle.tlsf_crew.proofs.lemmas.model.Sums.{same_sum}
 use Rattle.tlsf_crew.proofs.lemmas.jobs.Gathering.{record_at}

@@ -1,7 +1,5 @@
 -- Two records over queues agree: what one worker was answered to have posted is what the other took of it.
-use Rattle.tlsf_crew.proofs.Common.{[], ◌++◌, ◌≡◌, ℕ, List, length, drop, sym, ◌∙◌, ap, arith, append_assoc, append-nil, length-append, drop-append_seam, append_cancel_left, nil_from_length, posts_of, Post}
-use mathlib.Core.List.{IsPrefix}
-use Rattle.tlsf_post.proofs.RuleSteps.{of_append}
+use Rattle.tlsf_crew.proofs.Common.{[], ◌++◌, ◌≡◌, ℕ, List, length, drop, sym, ◌∙◌, ap, arith, append_assoc, append-nil, length-append, drop-append_seam, append_cancel_left, nil_from_length, posts_of, Post, IsPrefix, of_append}
 
 -- a list that begins with another and is its beginning is that list
 same_prefix : {X : Type 0} (put got rest more : List X) → put ++ rest ≡ got → got ++ more ≡ put → put ≡ got

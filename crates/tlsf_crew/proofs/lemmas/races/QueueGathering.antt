@@ -1,6 +1,5 @@
 -- Where each worker over queues ran its script, each record has a place left.
-use Rattle.tlsf_crew.proofs.Common.{◌∙◌, ℕ, List, length, map, get_or, vec_capacity, All, ap, sym, arith, subst, slice_index, Vec, Global, length-map, slice_get-get_or, slice_get_within, Call, Entry, Worker, Queues, KeepRooms, EachJobRan, script_of, releases_of, queue_promise, HasPlace, EachQueueWorkerRan, KnowsSomeYard, IsQueueYard}
-use Rattle.tlsf_crew.specs.races.Rooms.{HaveQueueRecordRooms}
+use Rattle.tlsf_crew.proofs.Common.{◌∙◌, ℕ, List, length, map, get_or, vec_capacity, All, ap, sym, arith, subst, slice_index, Vec, Global, length-map, slice_get-get_or, slice_get_within, Call, Entry, Worker, Queues, KeepRooms, EachJobRan, script_of, releases_of, queue_promise, HasPlace, EachQueueWorkerRan, KnowsSomeYard, IsQueueYard, HaveQueueRecordRooms}
 use Rattle.tlsf_crew.proofs.lemmas.scripts.QueueRuns.{queue_moves}
 use Rattle.tlsf_crew.proofs.lemmas.scripts.ScriptRuns.{script_room}
 use Rattle.tlsf_crew.proofs.lemmas.jobs.Gathering.{record_at}

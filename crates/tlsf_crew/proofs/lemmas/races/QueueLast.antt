@@ -1,6 +1,5 @@
 -- The last drains of a race over queues, worker after worker, take all that was known to have been put, and are told.
-use Rattle.tlsf_crew.proofs.Common.{[], ◌∷◌, ◌++◌, ◌≡◌, ◌≢◌, ℕ, ◌+◌, ◌<◌, ◌≤◌, List, Option, Some, length, set, sym, ◌∙◌, ap, subst, arith, refl, inl, inr, append_assoc, append-nil, get_or, get_or-set_other, cases_eq, length-map, length-set, map-set, slice_get_within, slice_get, Vec, Global, Name, posts_of, got_by, known_to, Entry, Drained, Stage, last_call, record_of, sum_of, posts_taken, post_of_take, Worker, Queues, id_of, queue_end_to, KeepsQueueYards, KnowsQueueYard, IsQueueYard, QueueStepped, entry_by, QueueLastDrained, EachQueueLastDrained}
-use mathlib.Core.List.{IsPrefix}
+use Rattle.tlsf_crew.proofs.Common.{[], ◌∷◌, ◌++◌, ◌≡◌, ◌≢◌, ℕ, ◌+◌, ◌<◌, ◌≤◌, List, Option, Some, length, set, sym, ◌∙◌, ap, subst, arith, refl, inl, inr, append_assoc, append-nil, get_or, get_or-set_other, cases_eq, length-map, length-set, map-set, slice_get_within, slice_get, Vec, Global, Name, posts_of, got_by, known_to, Entry, Drained, Stage, last_call, record_of, sum_of, posts_taken, post_of_take, Worker, Queues, id_of, queue_end_to, KeepsQueueYards, KnowsQueueYard, IsQueueYard, QueueStepped, entry_by, QueueLastDrained, EachQueueLastDrained, IsPrefix}
 use Rattle.tlsf_crew.proofs.lemmas.races.LastDrains.{items_of, record_items}
 use Rattle.tlsf_crew.proofs.lemmas.histories.JoinedEntries.{told_nothing, taken_then}
 use Rattle.tlsf_crew.proofs.lemmas.worker.Slots.{get_set_other, get_set_same, some_same, some_at}

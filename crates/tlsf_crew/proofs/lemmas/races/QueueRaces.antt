@@ -1,8 +1,5 @@
 -- A race over queues leads from the yard that was handed in to the one that comes back. Each record is legal, and each two agree.
-use Rattle.tlsf_crew.proofs.Common.{◌==◌, true, false, [], ◌∷◌, ◌++◌, ◌≡◌, ◌≢◌, ℕ, ◌+◌, ◌<◌, ◌≤◌, List, Some, None, All, length, map, drop, sym, ◌∙◌, ap, subst, arith, refl, inl, inr, append_assoc, append-nil, length-append, length-drop, slice_get, cases_eq, cases_lt, nat_tests, append_cancel_left, length-map, nil_from_length, same_from_push, All-nil, All-cons, All-tail, get_or_from_slice_get, slice_get_past, slice_get_within, HeapState, Name, posts_of, number_of, put_by, gone_from, plan_of, got_by, known_to, most_of, IsOnlyPoster, Post, PosterEnd, Call, Drain, Entry, Full, Drained, Refused, StandsBehind, posts_made, posts_taken, Progress, untold, heap_in, no_heap, last_call, script_of, record_of, Worker, Queues, heap_of, id_of, queue_end_to, KeepsQueueYards, KnowsQueueYard, IsQueueYard, first_capacity, queue_capacity_in, queue_end_in, queue_waits_in, queue_world_of, waits_of, MayTellQueue, with_takes, AgreeQueue, IsLegalQueue, IsQueueRace, QueueKnown, EachQueueSettled, StaysPut, end_at, QueueLastDrained, SettledAndDrained, EachQueueWorkerRan, QueueWorkerRan}
-use mathlib.Core.List.{IsPrefix}
-use Rattle.tlsf_post.specs.declared.plan.Plan.{Plan}
-use Rattle.tlsf_post.proofs.RuleSteps.{of_append}
+use Rattle.tlsf_crew.proofs.Common.{◌==◌, true, false, [], ◌∷◌, ◌++◌, ◌≡◌, ◌≢◌, ℕ, ◌+◌, ◌<◌, ◌≤◌, List, Some, None, All, length, map, drop, sym, ◌∙◌, ap, subst, arith, refl, inl, inr, append_assoc, append-nil, length-append, length-drop, slice_get, cases_eq, cases_lt, nat_tests, append_cancel_left, length-map, nil_from_length, same_from_push, All-nil, All-cons, All-tail, get_or_from_slice_get, slice_get_past, slice_get_within, HeapState, Name, posts_of, number_of, put_by, gone_from, plan_of, got_by, known_to, most_of, IsOnlyPoster, Post, PosterEnd, Call, Drain, Entry, Full, Drained, Refused, StandsBehind, posts_made, posts_taken, Progress, untold, heap_in, no_heap, last_call, script_of, record_of, Worker, Queues, heap_of, id_of, queue_end_to, KeepsQueueYards, KnowsQueueYard, IsQueueYard, first_capacity, queue_capacity_in, queue_end_in, queue_waits_in, queue_world_of, waits_of, MayTellQueue, with_takes, AgreeQueue, IsLegalQueue, IsQueueRace, QueueKnown, EachQueueSettled, StaysPut, end_at, QueueLastDrained, SettledAndDrained, EachQueueWorkerRan, QueueWorkerRan, IsPrefix, Plan, of_append}
 use Rattle.tlsf_crew.specs.scripts.QueueMoves.{told_of}
 use Rattle.tlsf_crew.proofs.lemmas.jobs.Gathering.{map_at}
 use Rattle.tlsf_crew.proofs.lemmas.histories.JoinedEntries.{made_then, taken_then}

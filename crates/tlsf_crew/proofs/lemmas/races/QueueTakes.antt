@@ -1,6 +1,5 @@
 -- The takes of a drain over queues: what they add to a record, and when two drains took the same posts.
-use Rattle.tlsf_crew.proofs.Common.{zero, suc, [], ◌∷◌, ◌++◌, ◌≡◌, ◌≢◌, ℕ, ◌<◌, ◌≤◌, List, Option, All, length, refl, sym, ◌∙◌, ap, arith, subst, inl, inr, append_assoc, append-nil, cases_eq, All-head, All-tail, Name, posts_but, posts_of, Post, Entry, Full, Drained, Refused, released, StandsBehind, post_of_release, post_of_take, posts_made, posts_taken, Progress, last_call, IsFromOther, take_entry, with_reply, with_take, with_takes}
-use Rattle.tlsf_post.proofs.RuleSteps.{of_append, of_kept, of_other, of_others, of_own, parts}
+use Rattle.tlsf_crew.proofs.Common.{zero, suc, [], ◌∷◌, ◌++◌, ◌≡◌, ◌≢◌, ℕ, ◌<◌, ◌≤◌, List, Option, All, length, refl, sym, ◌∙◌, ap, arith, subst, inl, inr, append_assoc, append-nil, cases_eq, All-head, All-tail, Name, posts_but, posts_of, Post, Entry, Full, Drained, Refused, released, StandsBehind, post_of_release, post_of_take, posts_made, posts_taken, Progress, last_call, IsFromOther, take_entry, with_reply, with_take, with_takes, of_append, of_kept, of_other, of_others, of_own, parts}
 use Rattle.tlsf_crew.proofs.lemmas.histories.JoinedEntries.{told_nothing, made_then, taken_then}
 use Rattle.tlsf_crew.proofs.lemmas.scripts.OneEntry.{stands_last}
 use Rattle.tlsf_crew.proofs.lemmas.scripts.QueueSteps.{take_tells}

@@ -1,6 +1,5 @@
 -- The room that the records of a race have when they come back is that which was made for what waited and for the scripts.
-use Rattle.tlsf_crew.proofs.Common.{◌≡◌, ℕ, ◌+◌, ◌<◌, List, Some, length, set, vec_capacity, sym, ◌∙◌, ap, arith, inl, inr, slice_get, Vec, Global, cases_eq, cases_lt, slice_get_within, Worker, Lanes, Entry, Call, IsYard, take_at, end_from_in, world_of, World, EachLaneSettled, count_of, ready_from, releases_of, script_of, HaveRooms, KeepRooms}
-use Rattle.tlsf_crew.specs.races.Rooms.{HaveRecordRooms}
+use Rattle.tlsf_crew.proofs.Common.{◌≡◌, ℕ, ◌+◌, ◌<◌, List, Some, length, set, vec_capacity, sym, ◌∙◌, ap, arith, inl, inr, slice_get, Vec, Global, cases_eq, cases_lt, slice_get_within, Worker, Lanes, Entry, Call, IsYard, take_at, end_from_in, world_of, World, EachLaneSettled, count_of, ready_from, releases_of, script_of, HaveRooms, KeepRooms, HaveRecordRooms}
 use Rattle.tlsf_crew.proofs.lemmas.worker.Slots.{some_same, get_set_same, get_set_other, some_at}
 use Rattle.tlsf_crew.proofs.lemmas.model.Sums.{same_sum}
 use Rattle.tlsf_crew.proofs.lemmas.lanes.Pending.{lane_ready}

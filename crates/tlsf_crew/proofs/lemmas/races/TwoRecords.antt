@@ -1,8 +1,5 @@
 -- Two records agree: what one worker was answered to have posted is what the other took, in order and each once.
-use Rattle.tlsf_crew.proofs.Common.{suc, zero, [], ◌∷◌, ◌++◌, ◌≡◌, ℕ, ◌+◌, ◌<◌, ◌≤◌, List, Option, Some, None, length, get_or, sym, ◌∙◌, ap, subst, refl, inl, inr, append-nil, ◌⊎◌, filter_map, cons_option, option_map, drop-append_seam, cases_eq, All-nil, All-append, All-push, Name, Post, Entry, Call, Release, Take, Drain, Target, Took, Reply, Posted, Empty, Drained, Refused, Full, name_of, AreTakes, IsDrain, name_on_heap, post_of_release, post_of_take, posts_made, posts_taken, entries_of, StandsBehind, Agree}
-use mathlib.Core.List.{IsPrefix}
-use Rattle.tlsf_calls.specs.declared.target.Target.TheVariants.{Named, Made as MadeBy, Absent}
-use Rattle.tlsf_calls.specs.declared.reply.Reply.TheVariants.{Took as Taken}
+use Rattle.tlsf_crew.proofs.Common.{suc, zero, [], ◌∷◌, ◌++◌, ◌≡◌, ℕ, ◌+◌, ◌<◌, ◌≤◌, List, Option, Some, None, length, get_or, sym, ◌∙◌, ap, subst, refl, inl, inr, append-nil, ◌⊎◌, filter_map, cons_option, option_map, drop-append_seam, cases_eq, All-nil, All-append, All-push, Name, Post, Entry, Call, Release, Take, Drain, Target, Took, Reply, Posted, Empty, Drained, Refused, Full, name_of, AreTakes, IsDrain, name_on_heap, post_of_release, post_of_take, posts_made, posts_taken, entries_of, StandsBehind, Agree, IsPrefix, MadeBy, Taken}
 use Rattle.tlsf_crew.proofs.lemmas.lanes.Signed.{AreFrom}
 use Rattle.tlsf_crew.proofs.lemmas.histories.JoinedEntries.{told_own, told_other, told_nothing, made_then, taken_then}
 use Rattle.tlsf_crew.proofs.lemmas.histories.DrainEntries.{drain_makes}
@@ -18,9 +15,8 @@ same_at (x ∷ made) (suc k) = same_at made k
 
 -- a name that was made stays made when one call more made none
 same_name : (made : List (Option Name)) (target : Target) → name_of (made ++ None ∷ []) target ≡ name_of made target
-same_name made (Named name) = refl
 same_name made (MadeBy k) = same_at made k
-same_name made Absent = refl
+same_name made target = refl
 
 same_post : (j : ℕ) (made : List (Option Name)) (i : ℕ) (call : Call) (reply : Reply) → post_of_release j (made ++ None ∷ []) i call reply ≡ post_of_release j made i call reply
 same_post j made i (Release target) Posted = ap (λ (n : Option Name). option_map (λ name. record { from = i; name = name }) (name_on_heap j n)) (same_name made target)

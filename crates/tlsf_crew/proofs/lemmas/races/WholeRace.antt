@@ -1,6 +1,5 @@
 -- A race leads from the yard that was handed in to the one that comes back: each record is legal, and each two agree.
-use Rattle.tlsf_crew.proofs.Common.{take-append_seam, [], ◌∷◌, ◌++◌, ◌≡◌, ◌≢◌, ℕ, ◌+◌, ◌<◌, ◌≤◌, List, Option, Some, None, length, map, take, drop, vec_len, vec_capacity, sym, ◌∙◌, ap, subst, arith, refl, inl, inr, length-append, slice_get, Vec, Global, cases_eq, cases_lt, length-map, slice_get_within, Name, HeapState, Post, PostEnd, TakeEnd, posts_sent, waited, taken, ready, Worker, Lanes, Entry, Call, heap_of, id_of, id_and_capacity, end_to, end_from, IsYard, heap_of_worker, post_at, take_at, end_to_in, end_from_in, capacity_in, waits_in, world_of, EachLaneSettled, sum_below, count_of, ready_from, releases_of, posts_made, posts_taken, last_call, script_of, IsLegal, Agree, IsRace, record_of, untold, MayTell, MayTellAll, LaneWorkerRan, EachLaneWorkerRan, HaveRooms, EachHasLastRoom, HasFew, EachLastDrained}
-use mathlib.Core.List.{IsPrefix}
+use Rattle.tlsf_crew.proofs.Common.{take-append_seam, [], ◌∷◌, ◌++◌, ◌≡◌, ◌≢◌, ℕ, ◌+◌, ◌<◌, ◌≤◌, List, Option, Some, None, length, map, take, drop, vec_len, vec_capacity, sym, ◌∙◌, ap, subst, arith, refl, inl, inr, length-append, slice_get, Vec, Global, cases_eq, cases_lt, length-map, slice_get_within, Name, HeapState, Post, PostEnd, TakeEnd, posts_sent, waited, taken, ready, Worker, Lanes, Entry, Call, heap_of, id_of, id_and_capacity, end_to, end_from, IsYard, heap_of_worker, post_at, take_at, end_to_in, end_from_in, capacity_in, waits_in, world_of, EachLaneSettled, sum_below, count_of, ready_from, releases_of, posts_made, posts_taken, last_call, script_of, IsLegal, Agree, IsRace, record_of, untold, MayTell, MayTellAll, LaneWorkerRan, EachLaneWorkerRan, HaveRooms, EachHasLastRoom, HasFew, EachLastDrained, IsPrefix}
 use Rattle.tlsf_crew.proofs.lemmas.worker.Slots.{some_same, some_at}
 use Rattle.tlsf_crew.proofs.lemmas.lanes.LaneSlots.{from_post, from_take, heap_at}
 use Rattle.tlsf_crew.proofs.lemmas.lanes.LanesOfOne.{own_number}

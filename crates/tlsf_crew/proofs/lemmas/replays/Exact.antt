@@ -1,9 +1,7 @@
 -- A call in a yard whose lanes it concerns are settled before and after: it is answered, and leaves the yard, as the model says.
-use Rattle.tlsf_crew.proofs.Common.{ℕ, ◌+◌, ◌≤◌, List, length, ap, arith, ◌==◌, true, false, suc, zero, [], ◌∷◌, ◌++◌, ◌≡◌, ◌≢◌, ◌⊎◌, ◌-◌, ◌<◌, Option, Some, None, map, take, drop, get_or, set, slice_get, replicate, sym, ◌∙◌, subst, refl, inl, inr, append_assoc, append-nil, length-append, length_push, get_or-replicate, length-set, map-set, drop_at, drop-drop, nil_from_length, take_all, append_cancel_left, Worker, Lanes, Reply, Entry, Event, Replayed, after, no_heap, World, DrainState, heap_in, made_by, name_of, called, draining, posting, releasing_named, taking, taking_next, took_first, took_more, drained_waiting, drained_below, after_drain, IsReplied, replay_of, ConcernsCall, AreLimits, slice_index, fold, filter_map, cases_eq, cases_lt, nat_tests, filter-append, slice_get_within, HeapState, Name, Post, PostEnd, TakeEnd, posts_sent, waited, taken, ready, Took, Target, Call, Allocate, Release, Write, Read, Resize, Take, Drain, Posted, Empty, Drained, Refused, Full, heap_of, id_of, id_and_capacity, end_to, end_from, KnowsYard, IsYard, post_at, take_at, end_to_in, end_from_in, lane_waits, capacity_in, waits_in, world_of, sum_below, sum_of, count_of, ready_from, LaneSettled, AreTakes, TellsCall, RunsTo, calls_on, answers_on, call_on_own, post_of_release, post_of_take, posts_made, posts_taken, entries_of, one, LaneMoved, Spent, SuitsCall, LaneStepped, at_stage}
+use Rattle.tlsf_crew.proofs.Common.{ℕ, ◌+◌, ◌≤◌, List, length, ap, arith, ◌==◌, false, suc, zero, [], ◌∷◌, ◌++◌, ◌≡◌, ◌≢◌, ◌⊎◌, ◌-◌, ◌<◌, Option, Some, None, map, take, drop, get_or, set, slice_get, replicate, sym, ◌∙◌, subst, refl, inl, inr, append_assoc, append-nil, length-append, length_push, get_or-replicate, length-set, map-set, drop_at, drop-drop, nil_from_length, take_all, append_cancel_left, Worker, Lanes, Reply, Entry, Event, Replayed, after, no_heap, World, WorldReply, heap_in, made_by, name_of, called, draining, releasing_named, IsReplied, replay_of, ConcernsCall, AreLimits, slice_index, filter_map, cases_eq, cases_lt, nat_tests, filter-append, slice_get_within, HeapState, Name, Post, PostEnd, TakeEnd, posts_sent, waited, taken, ready, Took, Target, Call, Release, Take, Drain, Posted, Empty, Drained, Refused, Full, heap_of, id_of, id_and_capacity, end_to, end_from, KnowsYard, IsYard, post_at, take_at, end_to_in, end_from_in, lane_waits, capacity_in, waits_in, world_of, sum_below, sum_of, count_of, ready_from, LaneSettled, AreTakes, TellsCall, RunsTo, calls_on, answers_on, call_on_own, post_of_release, post_of_take, posts_made, posts_taken, entries_of, one, LaneMoved, Spent, SuitsCall, LaneStepped, at_stage, IsPrefix, Taken}
 use Rattle.tlsf_crew.specs.replays.ReplaySteps.{MayTake}
-use mathlib.Core.List.{IsPrefix}
 use Rattle.tlsf_heap.specs.Calls as heap
-use Rattle.tlsf_calls.specs.declared.reply.Reply.TheVariants.{Took as Taken}
 use Rattle.tlsf_crew.proofs.lemmas.histories.DrainEntries.{drain_makes}
 use Rattle.tlsf_crew.proofs.lemmas.model.EventSteps.{after_near}
 use Rattle.tlsf_crew.proofs.lemmas.histories.AllEntries.{called_told, more_knows}
@@ -12,7 +10,7 @@ use Rattle.tlsf_crew.proofs.lemmas.histories.LaneCalls.{of_other}
 use Rattle.tlsf_crew.proofs.lemmas.lanes.LaneSettled.{none_wait, none_for, settled_waits, settled_room, capacity_by_world, waits_same}
 use Rattle.tlsf_crew.proofs.lemmas.histories.JoinedEntries.{taken_then, IsHistory, told_nothing}
 use Rattle.tlsf_crew.proofs.lemmas.lanes.LaneChanges.{heaps_count, heap_in_is}
-use Rattle.tlsf_crew.proofs.lemmas.model.OneEvent.{from_other, from_own, release_capacity, releasing_post, releasing_far, taking_own, taking_far, taking_lane}
+use Rattle.tlsf_crew.proofs.lemmas.model.OneEvent.{drain_by, posting_by, release_capacity, releasing_by, taking_by}
 use Rattle.tlsf_crew.proofs.lemmas.model.Sums.{least_sum}
 use Rattle.tlsf_crew.proofs.lemmas.worker.Slots.{get_set_same, get_set_other, some_same}
 use Rattle.tlsf_crew.proofs.lemmas.lanes.LaneSlots.{map_same}
@@ -267,12 +265,7 @@ call_away at made (Drain most) name own j t ne =
     let d = t.1 in
     let last = one at (Drain most) (Drained (length d.takes)) in
     ap (entries_of j) d.whole ∙ (filter-append (λ e. e.worker == j) d.takes last ∙ (ap (λ l. l ++ entries_of j last) (takes_away at 0 j d.takes d.are_takes ne) ∙ one_away at j (Drain most) (Drained (length d.takes)) ne))
-call_away at made (Allocate len) name own j t ne = ap (entries_of j) t.whole ∙ one_away at j (Allocate len) t.reply ne
-call_away at made (Release target) name own j t ne = ap (entries_of j) t.whole ∙ one_away at j (Release target) t.reply ne
-call_away at made (Write target from bytes) name own j t ne = ap (entries_of j) t.whole ∙ one_away at j (Write target from bytes) t.reply ne
-call_away at made (Read target from n) name own j t ne = ap (entries_of j) t.whole ∙ one_away at j (Read target from n) t.reply ne
-call_away at made (Resize target len) name own j t ne = ap (entries_of j) t.whole ∙ one_away at j (Resize target len) t.reply ne
-call_away at made (Take from) name own j t ne = ap (entries_of j) t.whole ∙ one_away at j (Take from) t.reply ne
+call_away at made call name own j t ne = ap (entries_of j) t.whole ∙ one_away at j call t.reply ne
 
 -- a post is made by a release of such a name alone
 abbrev Posts : ℕ → List (Option Name) → Call → Type 0
@@ -300,79 +293,27 @@ release_or at j later target reply = inl (told_nothing (λ x. post_of_release j 
 posts_or : (at j : ℕ) (made later : List (Option Name)) (call : Call) (name : Option Name) (own : List Entry) → TellsCall at made call name own → (posts_made at j later own ≡ []) ⊎ Posts j later call
 posts_or at j made later (Drain most) name own t = inl (drain_makes at j at most later own t.1)
 posts_or at j made later (Release target) name own t = subst (λ es. (posts_made at j later es ≡ []) ⊎ Posts j later (Release target)) (sym t.whole) (release_or at j later target t.reply)
-posts_or at j made later (Allocate len) name own t = inl (ap (posts_made at j later) t.whole ∙ told_nothing (λ x. post_of_release j later x.worker x.call x.reply) at (record { worker = at; call = Allocate len; reply = t.reply }) refl)
-posts_or at j made later (Write target from bytes) name own t =
-    inl (ap (posts_made at j later) t.whole ∙ told_nothing (λ x. post_of_release j later x.worker x.call x.reply) at (record { worker = at; call = Write target from bytes; reply = t.reply }) refl)
-posts_or at j made later (Read target from n) name own t = inl (ap (posts_made at j later) t.whole ∙ told_nothing (λ x. post_of_release j later x.worker x.call x.reply) at (record { worker = at; call = Read target from n; reply = t.reply }) refl)
-posts_or at j made later (Resize target len) name own t = inl (ap (posts_made at j later) t.whole ∙ told_nothing (λ x. post_of_release j later x.worker x.call x.reply) at (record { worker = at; call = Resize target len; reply = t.reply }) refl)
-posts_or at j made later (Take from) name own t = inl (ap (posts_made at j later) t.whole ∙ told_nothing (λ x. post_of_release j later x.worker x.call x.reply) at (record { worker = at; call = Take from; reply = t.reply }) refl)
+posts_or at j made later call name own t = inl (ap (posts_made at j later) t.whole ∙ told_nothing (λ x. post_of_release j later x.worker x.call x.reply) at (record { worker = at; call = call; reply = t.reply }) refl)
 
 -- ---- what a release leaves in a lane that isn't there
 
-posting_far : {sli : ℕ} (w : World sli) (at : ℕ) (name : Name) (j : ℕ) → name.heap ≢ j → (posting w at name).world.waiting at j ≡ w.waiting at j
-unfolding posting
-posting_far w at name j ne = elim (cases_eq (length (w.waiting at name.heap)) w.capacity) [
-  | inl e ↦ let b : (length (w.waiting at name.heap) == w.capacity) ≡ true = grind (arith, nat_tests) in rw b refl
-  | inr e ↦
-      let b : (length (w.waiting at name.heap) == w.capacity) ≡ false = grind (arith, nat_tests) in
-      rw b (edited_other w.waiting at name.heap at j (w.waiting at name.heap ++ record { from = at; name = name } ∷ []) (λ _ q. ne (sym q)))
-]
-
 far_lane_waits : {sli : ℕ} (w : World sli) (at j : ℕ) (o : Option Name) → (j ≡ at) ⊎ (length w.heaps ≤ j) → (releasing_named w at o).world.waiting at j ≡ w.waiting at j
 far_lane_waits w at j None far = refl
-far_lane_waits w at j (Some name) far = elim (cases_eq name.heap at) [
-  | inl own ↦ let b : (name.heap == at) ≡ true = grind (arith, nat_tests) in rw b refl
-  | inr ne ↦ elim (cases_lt name.heap (length w.heaps)) [
-    | inl lt ↦
-        let away : name.heap ≢ j = elim far [ inl e ↦ λ q. ne (q ∙ e) | inr ge ↦ λ q. absurd (omega arith) ] in
-        rw (releasing_post w at name ne lt) (posting_far w at name j away)
-    | inr ge ↦ rw (releasing_far w at name ne ge) refl
-  ]
-]
+far_lane_waits {sli} w at j (Some name) far =
+    let same : WorldReply sli → Type 0 = λ x. x.world.waiting at j ≡ w.waiting at j in
+    releasing_by same w at name (λ own. refl) (λ ne lt. posting_by same w at name (λ full. refl) (λ room.
+    let away : name.heap ≢ j = elim far [ inl e ↦ λ q. ne (q ∙ e) | inr ge ↦ λ q. absurd (omega arith) ] in
+    edited_other w.waiting at name.heap at j (w.waiting at name.heap ++ record { from = at; name = name } ∷ []) (λ _ q. away (sym q)))) (λ ne ge. refl)
 
 -- ---- the capacity of a world
 
-first_capacity : {sli : ℕ} (w : World sli) (at from : ℕ) (ps : List Post) → (took_first w at from ps).world.capacity ≡ w.capacity
-first_capacity w at from [] = refl
-first_capacity w at from (p ∷ rest) = refl
-
-next_capacity : {sli : ℕ} (w : World sli) (at from : ℕ) → (taking_next w at from).world.capacity ≡ w.capacity
-unfolding taking_next
-next_capacity w at from = first_capacity w at from (w.waiting from at)
-
-take_capacity : {sli : ℕ} (w : World sli) (at from : ℕ) → (taking w at from).world.capacity ≡ w.capacity
-take_capacity w at from = elim (cases_eq from at) [
-  | inl own ↦ rw (taking_own w at from own) refl
-  | inr ne ↦ elim (cases_lt from (length w.heaps)) [
-    | inl lt ↦ rw (taking_lane w at from ne lt) (next_capacity w at from)
-    | inr ge ↦ rw (taking_far w at from ge) refl
-  ]
-]
-
-lane_capacity : {sli : ℕ} (at from : ℕ) (ps : List Post) (d : DrainState sli) → (fold (took_more at from) d ps).world.capacity ≡ d.world.capacity
-lane_capacity at from [] d = refl
-lane_capacity at from (p ∷ ps) d = lane_capacity at from ps (took_more at from d p)
-
-drained_waiting_capacity : {sli : ℕ} (at most from : ℕ) (d : DrainState sli) → (drained_waiting at most from d).world.capacity ≡ d.world.capacity
-unfolding drained_waiting
-drained_waiting_capacity at most from d = lane_capacity at from (take (most - d.taken) (d.world.waiting from at)) d
-
-below_capacity : {sli : ℕ} (at most : ℕ) (d : DrainState sli) (k : ℕ) → (drained_below at most d k).world.capacity ≡ d.world.capacity
-below_capacity at most d zero = refl
-below_capacity at most d (suc k) =
-    let b = drained_below at most d k in
-    elim (cases_eq k at) [
-      | inl e ↦ rw (from_own at most b k e) (below_capacity at most d k)
-      | inr ne ↦ rw (from_other at most b k ne) (drained_waiting_capacity at most k b ∙ below_capacity at most d k)
-    ]
-
 draining_capacity : {sli : ℕ} (r : Replayed sli) (at most : ℕ) → (draining r at most).world.capacity ≡ r.world.capacity
-unfolding draining after_drain
-draining_capacity r at most = below_capacity at most (record { entries = r.entries; world = r.world; taken = 0 }) (length r.world.heaps)
+unfolding draining
+draining_capacity r at most = drain_by (λ d. d.world.capacity ≡ r.world.capacity) at most (record { entries = r.entries; world = r.world; taken = 0 }) (λ from d p lt ne full same. same) refl
 
 called_capacity : {sli : ℕ} (r : Replayed sli) (at : ℕ) (call : Call) → (called r at call).world.capacity ≡ r.world.capacity
 called_capacity r at (Release target) = release_capacity r.world at (name_of r.made target)
-called_capacity r at (Take from) = take_capacity r.world at from
+called_capacity r at (Take from) = taking_by (λ x. x.world.capacity ≡ r.world.capacity) r.world at from refl refl (λ p rest ne lt e. refl)
 called_capacity r at (Drain most) = draining_capacity r at most
 called_capacity r at call = refl
 

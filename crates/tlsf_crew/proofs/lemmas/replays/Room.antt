@@ -1,8 +1,7 @@
 -- A list of events makes at most one entry for each event, for each release and for each post that waits.
-use Rattle.tlsf_crew.proofs.Common.{suc, zero, cond, ◌==◌, true, false, [], ◌∷◌, ◌++◌, ◌≡◌, ℕ, ◌+◌, ◌-◌, ◌<◌, ◌≤◌, List, Option, Some, None, length, take, drop, sym, ◌∙◌, ap, arith, refl, inl, inr, fold, cases_eq, cases_lt, nat_tests, length_push, length-set, take-append-drop, sum_by-cons, HeapState, Name, Post, Event, Call, Allocate, Release, Write, Read, Resize, Take, Drain, Drained, Refused, Stranger, bytes_of, released, HeapReply, own_allocating, own_reading, own_resizing, own_writing, World, WorldReply, Replayed, with_heap, with_waiting, heap_in, by_own, posting, releasing, releasing_named, taking, taking_next, took_first, took, took_more, DrainState, drained_waiting, drained_below, after_drain, draining, answered, called, after, resumed, name_of, world_of, IsYard, waits_in, sum_below, waiting_count, is_release, releases_in, Worker, Lanes}
-use Rattle.tlsf_crew.proofs.lemmas.model.Edits.{edited_same}
+use Rattle.tlsf_crew.proofs.Common.{suc, zero, cond, [], ◌∷◌, ◌++◌, ◌≡◌, ℕ, ◌+◌, ◌-◌, ◌<◌, ◌≤◌, List, Option, Some, None, length, take, drop, ◌∙◌, ap, arith, refl, inl, inr, fold, cases_eq, cases_lt, length_push, length-set, sum_by-cons, HeapState, Name, Post, Event, Call, Allocate, Release, Write, Read, Resize, Take, Drain, Drained, Refused, Stranger, bytes_of, released, HeapReply, own_allocating, own_reading, own_resizing, own_writing, World, WorldReply, Replayed, with_heap, with_waiting, heap_in, by_own, releasing, releasing_named, taking, took, took_more, DrainState, after_drain, draining, answered, called, after, resumed, name_of, world_of, IsYard, waits_in, sum_below, waiting_count, is_release, releases_in, Worker, Lanes}
 use Rattle.tlsf_crew.proofs.lemmas.lanes.LaneChanges.{heaps_count}
-use Rattle.tlsf_crew.proofs.lemmas.model.OneEvent.{releasing_post, releasing_far, taking_lane, taking_own, taking_far, from_other, from_own}
+use Rattle.tlsf_crew.proofs.lemmas.model.OneEvent.{drain_by, posting_by, releasing_by, taking_by}
 use Rattle.tlsf_crew.proofs.lemmas.model.EventSteps.{after_far, after_near}
 use Rattle.tlsf_crew.proofs.lemmas.scripts.LaneMoves.{sum_has}
 use Rattle.tlsf_crew.proofs.lemmas.lanes.LaneSettled.{none_wait, none_for}
@@ -16,31 +15,16 @@ lane_waits : {sli : ℕ} (w : World sli) (i j : ℕ) (ps : List Post) → i < le
 unfolding waiting_count
 lane_waits w i j ps i_in j_in = edited_sum (length w.heaps) w.waiting i j ps i_in j_in
 
-post_waits : {sli : ℕ} (w : World sli) (at : ℕ) (name : Name) → at < length w.heaps → name.heap < length w.heaps → waiting_count (posting w at name).world ≤ waiting_count w + 1
-unfolding posting
-post_waits w at name at_in to_in =
-    elim (cases_eq (length (w.waiting at name.heap)) w.capacity) [
-      | inl e ↦ let b : (length (w.waiting at name.heap) == w.capacity) ≡ true = grind (arith, nat_tests) in rw b (omega arith)
-      | inr e ↦
-          let b : (length (w.waiting at name.heap) == w.capacity) ≡ false = grind (arith, nat_tests) in
-          let x : Post = record { from = at; name = name } in
-          let a = lane_waits w at name.heap (w.waiting at name.heap ++ x ∷ []) at_in to_in in
-          let n = length_push (w.waiting at name.heap) x in
-          rw b (omega arith)
-    ]
-
 release_waits : {sli : ℕ} (w : World sli) (at : ℕ) (name : Name) → at < length w.heaps → waiting_count (releasing w at name).world ≤ waiting_count w + 1
-release_waits w at name at_in =
-    elim (cases_eq name.heap at) [
-      | inl e ↦
-          let b : (name.heap == at) ≡ true = grind (arith, nat_tests) in
-          let h = heap_waits w at (released (heap_in w at) name).heap in
-          rw b (omega arith)
-      | inr e ↦ elim (cases_lt name.heap (length w.heaps)) [
-        | inl lt ↦ rw (releasing_post w at name e lt) (post_waits w at name at_in lt)
-        | inr ge ↦ rw (releasing_far w at name e ge) (omega arith)
-      ]
-    ]
+release_waits {sli} w at name at_in =
+    let few : WorldReply sli → Type 0 = λ x. waiting_count x.world ≤ waiting_count w + 1 in
+    releasing_by few w at name (λ e. let h = heap_waits w at (released (heap_in w at) name).heap in omega arith)
+    (λ ne lt. posting_by few w at name (λ e. omega arith) (λ room.
+    let x : Post = record { from = at; name = name } in
+    let a = lane_waits w at name.heap (w.waiting at name.heap ++ x ∷ []) at_in lt in
+    let n = length_push (w.waiting at name.heap) x in
+    omega arith))
+    (λ ne ge. omega arith)
 
 named_waits : {sli : ℕ} (w : World sli) (at : ℕ) (name : Option Name) → at < length w.heaps → waiting_count (releasing_named w at name).world ≤ waiting_count w + 1
 named_waits w at None at_in = omega arith
@@ -58,64 +42,23 @@ took_waits w at from p rest at_in from_in e =
     let n : length (w.waiting from at) ≡ length rest + 1 = ap length e ∙ omega arith in
     omega arith
 
-took_first_waits : {sli : ℕ} (w : World sli) (at from : ℕ) (ps : List Post) → at < length w.heaps → from < length w.heaps → w.waiting from at ≡ ps → waiting_count (took_first w at from ps).world ≤ waiting_count w
-took_first_waits w at from [] at_in from_in e = omega arith
-took_first_waits w at from (p ∷ rest) at_in from_in e = let a = took_waits w at from p rest at_in from_in e in omega arith
-
-next_waits : {sli : ℕ} (w : World sli) (at from : ℕ) → at < length w.heaps → from < length w.heaps → waiting_count (taking_next w at from).world ≤ waiting_count w
-unfolding taking_next
-next_waits w at from at_in from_in = took_first_waits w at from (w.waiting from at) at_in from_in refl
-
 take_waits : {sli : ℕ} (w : World sli) (at from : ℕ) → at < length w.heaps → waiting_count (taking w at from).world ≤ waiting_count w
 take_waits w at from at_in =
-    elim (cases_eq from at) [
-      | inl e ↦ rw (taking_own w at from e) (omega arith)
-      | inr e ↦ elim (cases_lt from (length w.heaps)) [
-        | inl lt ↦ let a = next_waits w at from at_in lt in rw (taking_lane w at from e lt) (omega arith)
-        | inr ge ↦ rw (taking_far w at from ge) (omega arith)
-      ]
-    ]
+    taking_by (λ x. waiting_count x.world ≤ waiting_count w) w at from (omega arith) (omega arith) (λ p rest ne lt e. let a = took_waits w at from p rest at_in lt e in omega arith)
 
 -- each post that a drain takes makes one entry
 abbrev IsEven : {sli : ℕ} → DrainState sli → DrainState sli → Type 0
 IsEven d b = (length b.entries + waiting_count b.world ≡ length d.entries + waiting_count d.world) × (length b.world.heaps ≡ length d.world.heaps)
 
-even_then : {sli : ℕ} (d b e : DrainState sli) → IsEven d b → IsEven b e → IsEven d e
-even_then d b e x y = (y.0 ∙ x.0, y.1 ∙ x.1)
-
-lane_even : {sli : ℕ} (at from : ℕ) (rest ps : List Post) (d : DrainState sli) → at < length d.world.heaps → from < length d.world.heaps → d.world.waiting from at ≡ ps ++ rest
-    → IsEven d (fold (took_more at from) d ps)
-lane_even at from rest [] d at_in from_in e = (refl, refl)
-lane_even at from rest (p ∷ ps) d at_in from_in e =
-    let next : drop 1 (d.world.waiting from at) ≡ ps ++ rest = ap (drop 1) e in
-    let full : d.world.waiting from at ≡ p ∷ drop 1 (d.world.waiting from at) = e ∙ ap (λ l. p ∷ l) (sym next) in
-    let t = took_waits d.world at from p (drop 1 (d.world.waiting from at)) at_in from_in full in
-    let n = length_push d.entries (record { worker = at; call = Take from; reply = (took d.world at from p (drop 1 (d.world.waiting from at))).reply }) in
-    let len : length (took_more at from d p).world.heaps ≡ length d.world.heaps = length-set d.world.heaps at (released (heap_in d.world at) p.name).heap in
-    let step : IsEven d (took_more at from d p) = (omega arith, len) in
-    even_then d (took_more at from d p) (fold (took_more at from) (took_more at from d p) ps) step (lane_even at from rest ps (took_more at from d p) (omega arith) (omega arith)
-    (edited_same d.world.waiting from at (drop 1 (d.world.waiting from at)) ∙ next))
-
-drained_waiting_even : {sli : ℕ} (at most from : ℕ) (d : DrainState sli) → at < length d.world.heaps → from < length d.world.heaps → IsEven d (drained_waiting at most from d)
-unfolding drained_waiting
-drained_waiting_even at most from d at_in from_in =
-    let m = most - d.taken in
-    lane_even at from (drop m (d.world.waiting from at)) (take m (d.world.waiting from at)) d at_in from_in (sym (take-append-drop m (d.world.waiting from at)))
-
-below_even : {sli : ℕ} (at most : ℕ) (d : DrainState sli) (k : ℕ) → at < length d.world.heaps → k ≤ length d.world.heaps → IsEven d (drained_below at most d k)
-below_even at most d zero at_in le = (refl, refl)
-below_even at most d (suc k) at_in le =
-    let b = drained_below at most d k in
-    let h = below_even at most d k at_in (omega arith) in
-    let len = h.1 in
-    elim (cases_eq k at) [
-      | inl e ↦ rw (from_own at most b k e) h
-      | inr e ↦ rw (from_other at most b k e) (even_then d b (drained_waiting at most k b) h (drained_waiting_even at most k b (omega arith) (omega arith)))
-    ]
-
 all_even : {sli : ℕ} (at most : ℕ) (d : DrainState sli) → at < length d.world.heaps → IsEven d (after_drain at most d)
-unfolding after_drain
-all_even at most d at_in = below_even at most d (length d.world.heaps) at_in (omega arith)
+all_even at most d at_in = drain_by (IsEven d) at most d (λ from b p lt ne full even.
+    let rest = drop 1 (b.world.waiting from at) in
+    let count = even.1 in
+    let sum = even.0 in
+    let t = took_waits b.world at from p rest (omega arith) (omega arith) full in
+    let n = length_push b.entries (record { worker = at; call = Take from; reply = (took b.world at from p rest).reply }) in
+    let len : length (took_more at from b p).world.heaps ≡ length b.world.heaps = length-set b.world.heaps at (released (heap_in b.world at) p.name).heap in
+    (omega arith, len ∙ count)) (refl, refl)
 
 draining_even : {sli : ℕ} (r : Replayed sli) (at most : ℕ) → at < length r.world.heaps → length (draining r at most).entries + waiting_count (draining r at most).world ≡ length r.entries + waiting_count r.world + 1
 unfolding draining

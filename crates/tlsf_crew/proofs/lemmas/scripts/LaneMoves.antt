@@ -1,7 +1,5 @@
 -- A worker who posts once, or takes once, has moved as that entry tells.
-use Rattle.tlsf_crew.proofs.Common.{◌==◌, true, false, [], ◌∷◌, ◌≡◌, ◌≢◌, ℕ, zero, suc, ◌+◌, ◌<◌, ◌≤◌, List, Option, Some, None, Result, Ok, Err, length, take, sym, ◌∙◌, ap, arith, refl, inl, inr, append-nil, slice_index, cases_eq, cases_lt, nat_tests, Post, PostEnd, TakeEnd, posts_sent, free_slots, taken, ready, Name, Worker, Lanes, Entry, Release, Take, Target, Took, Posted, id_of, end_to, end_from, PostEndPut, TakeEndTook, sum_below, posts_made, posts_taken, post_of_release, post_of_take, name_of, OneFewer, one, PostEndMoved, TakeEndMoved, Spent, LaneMoved}
-use mathlib.Core.List.{IsPrefix}
-use Rattle.tlsf_calls.specs.declared.reply.Reply.TheVariants.{Took as Taken}
+use Rattle.tlsf_crew.proofs.Common.{◌==◌, true, false, [], ◌∷◌, ◌≡◌, ◌≢◌, ℕ, zero, suc, ◌+◌, ◌<◌, ◌≤◌, List, Option, Some, None, Result, Ok, Err, length, take, sym, ◌∙◌, ap, arith, refl, inl, inr, append-nil, slice_index, cases_eq, cases_lt, nat_tests, Post, PostEnd, TakeEnd, posts_sent, free_slots, taken, ready, Name, Worker, Lanes, Entry, Release, Take, Target, Took, Posted, id_of, end_to, end_from, PostEndPut, TakeEndTook, sum_below, posts_made, posts_taken, post_of_release, post_of_take, name_of, OneFewer, one, PostEndMoved, TakeEndMoved, Spent, LaneMoved, IsPrefix, Taken}
 use Rattle.tlsf_crew.proofs.lemmas.lanes.LaneSlots.{ports_numbers}
 use Rattle.tlsf_crew.proofs.lemmas.lanes.YardKept.{put_keeps, take_keeps}
 use Rattle.tlsf_crew.proofs.lemmas.histories.LaneCalls.{of_same, of_other}

@@ -1,8 +1,6 @@
 -- A worker's takes from one lane after another, in a drain under limits.
-use Rattle.tlsf_crew.proofs.Common.{slice_get, ◌==◌, true, false, Bool, [], ◌∷◌, ◌++◌, ◌≡◌, ◌≢◌, ◌-◌, ℕ, zero, suc, ◌+◌, ◌<◌, ◌≤◌, List, Option, Some, None, length, sym, ◌∙◌, ap, arith, refl, inl, inr, subst, append_assoc, append-nil, length-append, add-one, if◌then◌else◌, slice_index, cases_eq, cases_lt, slice_get_within, nat_tests, fold-append, Name, Post, Worker, Lanes, Entry, Take, Took, Journal, released, heap_of, id_of, SameButPorts, end_from, HasTake, lane_places, KnowsYard, sum_below, posts_taken, SourceNoted, EachNoted, AllNoted, EachTakeNoted, EntersTake, IsAdmitted, one, Spent, LaneMoved, LaneTakenWithin, took_by, WorkerDrain, took_post, took_posts, took_each_lane, drain_at, LaneTaken, LaneSpent, EachLaneTaken, EachLaneSpent, Stage, at_stage, stage_of}
+use Rattle.tlsf_crew.proofs.Common.{slice_get, ◌==◌, true, false, Bool, [], ◌∷◌, ◌++◌, ◌≡◌, ◌≢◌, ◌-◌, ℕ, zero, suc, ◌+◌, ◌<◌, ◌≤◌, List, Option, Some, None, length, sym, ◌∙◌, ap, arith, refl, inl, inr, subst, append_assoc, append-nil, length-append, add-one, if◌then◌else◌, slice_index, cases_eq, cases_lt, slice_get_within, nat_tests, fold-append, Name, Post, Worker, Lanes, Entry, Take, Took, Journal, released, heap_of, id_of, SameButPorts, end_from, HasTake, lane_places, KnowsYard, sum_below, posts_taken, SourceNoted, EachNoted, AllNoted, EachTakeNoted, EntersTake, IsAdmitted, one, Spent, LaneMoved, LaneTakenWithin, took_by, WorkerDrain, took_post, took_posts, took_each_lane, drain_at, LaneTaken, LaneSpent, EachLaneTaken, EachLaneSpent, Stage, at_stage, stage_of, Taken, lane_rules}
 use Rattle.tlsf_calls.specs.declared.drained.Drained.{Drained}
-use Rattle.tlsf_calls.specs.declared.reply.Reply.TheVariants.{Took as Taken}
-use Rattle.tlsf_crew.specs.lanes.LaneNotes.{lane_rules}
 use Rattle.tlsf_crew.proofs.lemmas.lanes.YardKept.{same_keeps}
 use Rattle.tlsf_crew.proofs.lemmas.scripts.ManyEntries.{moved_then, spent_then, spent_more}
 use Rattle.tlsf_crew.proofs.lemmas.histories.JoinedEntries.{taken_then}

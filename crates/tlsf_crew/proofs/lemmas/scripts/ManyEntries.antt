@@ -1,6 +1,5 @@
 -- A worker who has moved by some calls and then by others has moved by all of them.
-use Rattle.tlsf_crew.proofs.Common.{[], ◌∷◌, ◌++◌, ◌≡◌, ℕ, zero, suc, ◌+◌, ◌≤◌, List, Option, length, take, sym, ◌∙◌, ap, arith, refl, inl, inr, ◌⊎◌, subst, append_assoc, length-append, cond, slice_index, sum_by-append, PostEnd, TakeEnd, posts_sent, taken, ready, Name, Worker, Lanes, Entry, Call, sum_below, sum_of, is_release, posts_made, posts_taken, StandsBehind, PostEndMoved, TakeEndMoved, Spent, LaneMoved}
-use mathlib.Core.List.{IsPrefix}
+use Rattle.tlsf_crew.proofs.Common.{[], ◌∷◌, ◌++◌, ◌≡◌, ℕ, zero, suc, ◌+◌, ◌≤◌, List, Option, length, take, sym, ◌∙◌, ap, arith, refl, inl, inr, ◌⊎◌, subst, append_assoc, length-append, cond, slice_index, sum_by-append, PostEnd, TakeEnd, posts_sent, taken, ready, Name, Worker, Lanes, Entry, Call, sum_below, sum_of, is_release, posts_made, posts_taken, StandsBehind, PostEndMoved, TakeEndMoved, Spent, LaneMoved, IsPrefix}
 use Rattle.tlsf_crew.proofs.lemmas.lanes.YardKept.{keeps_then}
 use Rattle.tlsf_crew.proofs.lemmas.histories.JoinedEntries.{made_then, taken_then}
 

@@ -1,6 +1,5 @@
 -- A worker who makes no entry, or one that tells of no lane, has moved as it tells.
-use Rattle.tlsf_crew.proofs.Common.{[], ◌∷◌, ◌++◌, ◌≡◌, ℕ, ◌<◌, ◌≤◌, List, Option, Some, length, sym, ◌∙◌, ap, arith, refl, inl, inr, ◌⊎◌, subst, append-nil, length-append, ◌↔◌, PostEnd, TakeEnd, posts_sent, free_slots, taken, ready, Name, Worker, Lanes, Entry, Call, Take, Drain, Empty, Drained, Refused, Full, id_of, SameButHeap, id_and_capacity, end_to, end_from, HasPost, HasTake, KnowsYard, KeepsYards, IsNoPost, posts_made, posts_taken, post_of_release, post_of_take, StandsBehind, PostEndMoved, TakeEndMoved, Spent, LaneMoved}
-use mathlib.Core.List.{IsPrefix}
+use Rattle.tlsf_crew.proofs.Common.{[], ◌∷◌, ◌++◌, ◌≡◌, ℕ, ◌<◌, ◌≤◌, List, Option, Some, length, sym, ◌∙◌, ap, arith, refl, inl, inr, ◌⊎◌, subst, append-nil, length-append, ◌↔◌, PostEnd, TakeEnd, posts_sent, free_slots, taken, ready, Name, Worker, Lanes, Entry, Call, Take, Drain, Empty, Drained, Refused, Full, id_of, SameButHeap, id_and_capacity, end_to, end_from, HasPost, HasTake, KnowsYard, KeepsYards, IsNoPost, posts_made, posts_taken, post_of_release, post_of_take, StandsBehind, PostEndMoved, TakeEndMoved, Spent, LaneMoved, IsPrefix}
 use Rattle.tlsf_crew.proofs.lemmas.lanes.LaneSlots.{same_parts}
 use Rattle.tlsf_crew.proofs.lemmas.model.Sums.{same_sum}
 use Rattle.tlsf_crew.proofs.lemmas.histories.JoinedEntries.{made_then, taken_then, told_nothing}

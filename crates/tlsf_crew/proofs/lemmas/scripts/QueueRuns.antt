@@ -1,7 +1,5 @@
 -- The yard that calls over queues leave, one after another.
-use Rattle.tlsf_crew.proofs.Common.{[], ◌++◌, ◌≡◌, ℕ, List, Option, length, sym, ◌∙◌, ap, arith, inl, inr, subst, append_assoc, append-nil, length-append, Name, posts_of, put_by, got_by, known_to, Call, Entry, Worker, Queues, posts_made, posts_taken, id_of, queue_end_to, QueueMoved, queue_promise, AreMoves}
-use mathlib.Core.List.{IsPrefix}
-use Rattle.tlsf_post.specs.declared.plan.Plan.{Plan}
+use Rattle.tlsf_crew.proofs.Common.{[], ◌++◌, ◌≡◌, ℕ, List, Option, length, sym, ◌∙◌, ap, arith, inl, inr, subst, append_assoc, append-nil, length-append, Name, posts_of, put_by, got_by, known_to, Call, Entry, Worker, Queues, posts_made, posts_taken, id_of, queue_end_to, QueueMoved, queue_promise, AreMoves, IsPrefix, Plan}
 use Rattle.tlsf_crew.proofs.lemmas.histories.JoinedEntries.{made_then, taken_then}
 use Rattle.tlsf_crew.proofs.lemmas.scripts.ManyEntries.{stands_split}
 use Rattle.tlsf_crew.proofs.lemmas.scripts.OneEntry.{no_entry}

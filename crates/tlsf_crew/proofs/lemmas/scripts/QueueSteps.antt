@@ -1,12 +1,7 @@
 -- One call of a worker over queues, and the entries that tell of it.
-use Rattle.tlsf_crew.proofs.Common.{◌==◌, true, false, [], ◌∷◌, ◌++◌, ◌≡◌, ◌≢◌, ℕ, suc, ◌+◌, ◌-◌, ◌<◌, ◌≤◌, List, Option, Some, None, Result, Ok, Err, All, length, sym, ◌∙◌, ap, arith, refl, inl, inr, ◌⊎◌, subst, append_assoc, append-nil, length-append, cons_option, slice_index, cases_eq, cases_lt, nat_tests, All-nil, All-cons, HeapState, Name, Refusal, posts_of, number_of, put_by, got_by, known_to, IsAllTaken, IsOnlyPoster, HasFilled, Post, OwnerEnd, PosterEnd, Call, Release, Take, Drain, Entry, Target, Released, Took, CrewRefusal, Full, Stranger, Reply, Posted, Drained, Refused, released, sum_of, IsNoPost, StandsBehind, posts_made, posts_taken, post_of_release, post_of_take, IsModelAnswer, MayTell, Progress, name_of, Worker, Queues, Journal, IsOther, heap_of, id_of, SameButHeap, AfterTake, ReleasedThere, posted_as, put_answer, SourceNoted, EachNoted, EachTakeNoted, IsAdmitted, OneFewer, EntersTake, IsNoTake, QuietCall, at_stage, stage_of, reply_released, queue_to, queue_end_to, PutsIntoQueue, HasQueueEnd, KnowsQueueYard, KeepsQueueYards, PosterEndPut, OwnEndTook, IsFromOther, MayTellQueue, take_entry, with_reply, with_take, with_takes, QueueMoved, QueueStepped, entry_by}
-use mathlib.Core.List.{IsPrefix}
+use Rattle.tlsf_crew.proofs.Common.{◌==◌, true, false, [], ◌∷◌, ◌++◌, ◌≡◌, ◌≢◌, ℕ, suc, ◌+◌, ◌-◌, ◌<◌, ◌≤◌, List, Option, Some, None, Result, Ok, Err, All, length, sym, ◌∙◌, ap, arith, refl, inl, inr, ◌⊎◌, subst, append_assoc, append-nil, length-append, cons_option, slice_index, cases_eq, cases_lt, nat_tests, All-nil, All-cons, HeapState, Name, Refusal, posts_of, number_of, put_by, got_by, known_to, IsAllTaken, IsOnlyPoster, HasFilled, Post, OwnerEnd, PosterEnd, Call, Release, Take, Drain, Entry, Target, Released, Took, CrewRefusal, Full, Stranger, Reply, Posted, Drained, Refused, released, sum_of, IsNoPost, StandsBehind, posts_made, posts_taken, post_of_release, post_of_take, IsModelAnswer, MayTell, Progress, name_of, Worker, Queues, Journal, IsOther, heap_of, id_of, SameButHeap, AfterTake, ReleasedThere, posted_as, put_answer, SourceNoted, EachNoted, EachTakeNoted, IsAdmitted, OneFewer, EntersTake, IsNoTake, QuietCall, at_stage, stage_of, reply_released, queue_to, queue_end_to, PutsIntoQueue, HasQueueEnd, KnowsQueueYard, KeepsQueueYards, PosterEndPut, OwnEndTook, IsFromOther, MayTellQueue, take_entry, with_reply, with_take, with_takes, QueueMoved, QueueStepped, entry_by, IsPrefix, Taken, TakenFromQueue, queue_rules, of_append}
 use Rattle.tlsf_heap.specs.Calls as heap
-use Rattle.tlsf_calls.specs.declared.reply.Reply.TheVariants.{Took as Taken}
-use Rattle.tlsf_crew.specs.queues.QueueCalls.{TakenFromQueue}
-use Rattle.tlsf_crew.specs.queues.QueueNotes.{queue_rules}
 use Rattle.tlsf_crew.specs.scripts.QueueMoves.{told_of}
-use Rattle.tlsf_post.proofs.RuleSteps.{of_append}
 use Rattle.tlsf_crew.proofs.lemmas.histories.AllEntries.{more_knows}
 use Rattle.tlsf_crew.proofs.lemmas.histories.JoinedEntries.{told_nothing, told_own, made_then, taken_then}
 use Rattle.tlsf_crew.proofs.lemmas.scripts.LaneMoves.{posts_made_by_post, release_posts_elsewhere}

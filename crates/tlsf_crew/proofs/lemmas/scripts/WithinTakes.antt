@@ -1,8 +1,6 @@
 -- A take of a worker in a race, where a limit says how many it may take.
-use Rattle.tlsf_crew.proofs.Common.{[], ◌∷◌, ◌≡◌, ◌≢◌, ◌-◌, ℕ, ◌<◌, ◌≤◌, List, Option, Some, None, length, take, set, sym, ◌∙◌, ap, arith, refl, inl, inr, ◌⊎◌, subst, slice_index, cases_lt, get_or-set_same, get_or-set_other, Name, Post, ready, Worker, Lanes, Entry, Call, Take, Took, Empty, Refused, Stranger, released, heap_of, id_of, TakeEndTook, TookThrough, AfterTake, TakenFromLane, IsModelAnswer, Progress, World, WorldReply, answered, called, heap_in, taking, taking_next, took, took_first, reply_took, TakenWithin, told_of, one, Spent, LaneMoved, LaneTakenWithin, took_by, OneFewer}
-use mathlib.Core.List.{IsPrefix}
+use Rattle.tlsf_crew.proofs.Common.{[], ◌∷◌, ◌≡◌, ◌≢◌, ◌-◌, ℕ, ◌<◌, ◌≤◌, List, Option, Some, None, length, take, set, sym, ◌∙◌, ap, arith, refl, inl, inr, ◌⊎◌, subst, slice_index, cases_lt, get_or-set_same, get_or-set_other, Name, Post, ready, Worker, Lanes, Entry, Call, Take, Took, Empty, Refused, Stranger, released, heap_of, id_of, TakeEndTook, TookThrough, AfterTake, TakenFromLane, IsModelAnswer, Progress, World, WorldReply, answered, called, heap_in, taking, taking_next, took, took_first, reply_took, TakenWithin, told_of, one, Spent, LaneMoved, LaneTakenWithin, took_by, OneFewer, IsPrefix, Taken}
 use Rattle.tlsf_heap.specs.Calls as heap
-use Rattle.tlsf_calls.specs.declared.reply.Reply.TheVariants.{Took as Taken}
 use Rattle.tlsf_crew.proofs.lemmas.worker.SameParts.{ports_heap}
 use Rattle.tlsf_crew.proofs.lemmas.lanes.YardKept.{heap_keeps, same_keeps}
 use Rattle.tlsf_crew.proofs.lemmas.scripts.LaneMoves.{moved_take, spent_none, still_empty}

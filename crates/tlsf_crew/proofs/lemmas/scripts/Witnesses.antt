@@ -1,6 +1,5 @@
 -- A world in which a call is answered as a worker answered it.
-use Rattle.tlsf_crew.proofs.Common.{[], ◌∷◌, ◌≡◌, ℕ, ◌<◌, List, Option, length, set, sym, ◌∙◌, ap, arith, replicate, length-set, length-replicate, get_or-set_same, HeapState, Name, Post, Call, Reply, Refused, Full, no_heap, World, heap_in, with_heap, HasHeap, Suits}
-use Rattle.tlsf_calls.specs.declared.reply.Reply.TheVariants.{Took as Taken}
+use Rattle.tlsf_crew.proofs.Common.{[], ◌∷◌, ◌≡◌, ℕ, ◌<◌, List, Option, length, set, sym, ◌∙◌, ap, arith, replicate, length-set, length-replicate, get_or-set_same, HeapState, Name, Post, Call, Reply, Refused, Full, no_heap, World, heap_in, with_heap, HasHeap, Suits, Taken}
 
 -- n workers, one of whom has this heap; these posts wait in all lanes from each
 abbrev pub a_world : {sli : ℕ} → ℕ → ℕ → HeapState → (ℕ → List Post) → ℕ → World sli

@@ -1,5 +1,5 @@
 -- A call leaves a heap its number, and leaves it lawful.
-use Rattle.tlsf_crew.proofs.Common.{◌≡◌, ℕ, List, [], ◌∷◌, sym, ◌∙◌, ap, subst, refl, Result, Ok, Err, IfOk, OnErr, HeapState, IsLawful, IsRegion, opened, Name, KeepsHeap, IsHeapOf}
+use Rattle.tlsf_crew.proofs.Common.{◌≡◌, ℕ, List, [], ◌∷◌, sym, ◌∙◌, ap, subst, refl, Result, Ok, Err, IfOk, OnErr, HeapState, IsLawful, IsRegion, opened, Name, KeepsHeap, IsHeapOf, ids, lawful_run}
 use Rattle.std.specs.Borrow.{MutBor}
 use Rattle.std.specs.Fn.{Once}
 use Rattle.tlsf_heap.specs.Calls.{Call, answered, Allocate, Write}
@@ -7,7 +7,6 @@ use Rattle.tlsf_heap.specs.InPlace.{Alters}
 use Rattle.tlsf_heap.specs.Kept.{IsAsBefore}
 use Rattle.tlsf_heap.specs.Shown.{Shown}
 use Rattle.tlsf_heap.proofs.lemmas.blocks.Lawful.{opened_lawful as lawful_opened}
-use Rattle.tlsf_heap.proofs.lemmas.calls.Outcomes.{ids, lawful_run}
 use Rattle.tlsf_class.proofs.TwoLevels.{level_4}
 
 pub same_heap_keeps : (h k : HeapState) → k ≡ h → KeepsHeap h k

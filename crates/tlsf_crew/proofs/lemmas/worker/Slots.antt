@@ -1,6 +1,5 @@
 -- A slot that was written has what was written, and each other slot what it had.
-use Rattle.tlsf_crew.proofs.Common.{◌⊎◌, ◌≡◌, ◌≢◌, ℕ, ◌<◌, ◌≤◌, List, Option, Some, None, length, set, sym, ◌∙◌, ap, arith, refl, inl, inr, get_or-set_same, get_or-set_other, suc, zero, replicate, ◌∷◌, ◌++◌, [], slice_get, slice_get-get_or, slice_get_past, cases_lt, length-set, slot_of, end_extents}
-use Rattle.tlsf_words.specs.Memory.{Extent}
+use Rattle.tlsf_crew.proofs.Common.{◌⊎◌, ◌≡◌, ◌≢◌, ℕ, ◌<◌, ◌≤◌, List, Option, Some, None, length, set, sym, ◌∙◌, ap, arith, refl, inl, inr, get_or-set_same, get_or-set_other, suc, zero, replicate, ◌∷◌, ◌++◌, [], slice_get, slice_get-get_or, slice_get_past, cases_lt, length-set, slot_of, end_extents, Extent}
 
 pub no_slot : {X : Type 0} (n y : ℕ) → slot_of (slice_get (replicate {A = Option X} n None) y) ≡ None
 no_slot zero y = refl

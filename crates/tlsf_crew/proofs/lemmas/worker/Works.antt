@@ -1,6 +1,5 @@
 -- Calls of a worker one after another make no more touches than all of them may, and take no memory.
-use Rattle.tlsf_crew.proofs.Common.{◌≡◌, ◌∙◌, ℕ, ◌+◌, ◌≤◌, List, refl, ap, arith, Worker, WorksWithin, shown_of}
-use Rattle.tlsf_words.specs.Memory.{Extent}
+use Rattle.tlsf_crew.proofs.Common.{◌≡◌, ◌∙◌, ℕ, ◌+◌, ◌≤◌, List, refl, ap, arith, Worker, WorksWithin, shown_of, Extent}
 
 pub works_none : {sli : ℕ} {P : Type 0} (extents : P → List Extent) (n : ℕ) (a : Worker sli P) → WorksWithin extents n a a
 works_none extents n a = record { touches = omega arith; touches_rise = omega arith; stays = (refl, refl) }

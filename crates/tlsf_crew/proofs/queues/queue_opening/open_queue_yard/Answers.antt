@@ -1,5 +1,4 @@
-use Rattle.tlsf_crew.proofs.Common.{◌≡◌, ◌∙◌, length, drop, ap, arith, vec_len, AreGiven}
-use Rattle.std.proofs.Common.{rules}
+use Rattle.tlsf_crew.proofs.Common.{◌≡◌, ◌∙◌, length, drop, ap, arith, vec_len, AreGiven, rules}
 use Rattle.std.proofs.lemmas.List.{take_at}
 use Rattle.tlsf_crew.proofs.lemmas.queues.QueueOpened.{given_fresh, given_whole, given_world}
 use Rattle.tlsf_crew.proofs.queues.queue_opening.open_queue_yard.Goals as goal

@@ -1,4 +1,3 @@
-use Rattle.std.proofs.Common.{}
 use Rattle.tlsf_crew.proofs.lemmas.lanes.LaneTurns.{all_drained}
 use Rattle.tlsf_crew.proofs.lanes.lane_worker.Worker+SLI.drain.Goals as goal
 

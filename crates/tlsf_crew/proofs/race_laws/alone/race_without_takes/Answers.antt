@@ -1,6 +1,0 @@
-use Rattle.tlsf_crew.proofs.lemmas.race_laws.AloneDrains.{race_runs_alone}
-use Rattle.tlsf_crew.proofs.lemmas.race_laws.OneRace.{race_is_one}
-use Rattle.tlsf_crew.proofs.race_laws.alone.race_without_takes.Goals as goal
-
-pub returns : goal.returns
-returns c = record { one = race_is_one; alone = race_runs_alone }

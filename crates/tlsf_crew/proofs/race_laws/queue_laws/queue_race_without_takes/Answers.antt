@@ -1,5 +1,0 @@
-use Rattle.tlsf_crew.proofs.lemmas.race_laws.QueueAlone.{queue_race_is_one, two_uncontended}
-use Rattle.tlsf_crew.proofs.race_laws.queue_laws.queue_race_without_takes.Goals as goal
-
-pub returns : goal.returns
-returns c = record { one = queue_race_is_one; two = λ sli. two_uncontended {sli = sli} }

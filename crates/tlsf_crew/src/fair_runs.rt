@@ -1,3 +1,0 @@
-//! A run that is fair.
-
-pub(crate) mod laws;
