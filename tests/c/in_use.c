@@ -1,6 +1,6 @@
 /* A call notes that it uses a handle, and a signal handler's call on that handle is refused meanwhile. Here a signal comes after each
  * instruction of each call. A handler's call that would change nothing has to be refused at one of these at least. tlsf_counts isn't
- * tried: it only reads, by a few instructions, and the compiler leaves its note out. */
+ * tried: it only reads, by a few instructions, and notes nothing. */
 #define _GNU_SOURCE
 #include "peachanchor.h"
 #include "stepping.h"

@@ -26,16 +26,16 @@ left old new r len why same =
     ∙ ap (λ (m : ℕ). counts_of old.heap m (noted_if r len why)) same.most_in_use
     ∙ refusal old.heap old.most_in_use r len why
 
-pub requested : (old new : Shown) (r : Refused) (answer : Result Name Refusal) (len : ℕ) → new.most_in_use ≡ peak_of old new → OnErr answer (IsAsBefore old new)
-    → counts_of new.heap new.most_in_use (noted r answer len) ≡ counted_request (counts_of old.heap old.most_in_use r) answer len new.heap
-requested old new r (Ok given) len peak same = ap (λ (m : ℕ). counts_of new.heap m r) peak
-requested old new r (Err why) len peak same = left old new r len why same
+pub requested : (old new : Shown) (r now : Refused) (answer : Result Name Refusal) (len : ℕ) → now ≡ noted r answer len → new.most_in_use ≡ peak_of old new → OnErr answer (IsAsBefore old new)
+    → counts_of new.heap new.most_in_use now ≡ counted_request (counts_of old.heap old.most_in_use r) answer len new.heap
+requested old new r now (Ok given) len is peak same = ap (λ (x : Refused). counts_of new.heap new.most_in_use x) is ∙ ap (λ (m : ℕ). counts_of new.heap m r) peak
+requested old new r now (Err why) len is peak same = ap (λ (x : Refused). counts_of new.heap new.most_in_use x) is ∙ left old new r len why same
 
 -- of the block at a place, which may have moved
-pub moved : (old new : Shown) (r : Refused) (at : ℕ) (answer : Result Name Refusal) (len : ℕ) → new.most_in_use ≡ peak_moved old at answer new.heap → words_in_use new.heap ≤ new.most_in_use → OnErr answer (IsAsBefore old new)
-    → counts_of new.heap new.most_in_use (noted r answer len) ≡ counted_move (counts_of old.heap old.most_in_use r) at answer len new.heap
-moved old new r at (Err why) len peak reached same = left old new r len why same
-moved old new r at (Ok name) len peak reached same = on (name.at == at) peak
+pub moved : (old new : Shown) (r now : Refused) (at : ℕ) (answer : Result Name Refusal) (len : ℕ) → now ≡ noted r answer len → new.most_in_use ≡ peak_moved old at answer new.heap → words_in_use new.heap ≤ new.most_in_use → OnErr answer (IsAsBefore old new)
+    → counts_of new.heap new.most_in_use now ≡ counted_move (counts_of old.heap old.most_in_use r) at answer len new.heap
+moved old new r now at (Err why) len is peak reached same = ap (λ (x : Refused). counts_of new.heap new.most_in_use x) is ∙ left old new r len why same
+moved old new r now at (Ok name) len is peak reached same = ap (λ (x : Refused). counts_of new.heap new.most_in_use x) is ∙ on (name.at == at) peak
   where
     on : (b : Bool) → new.most_in_use ≡ cond b (max old.most_in_use (words_in_use new.heap)) (max old.most_in_use (words_in_use old.heap + words_at new.heap name.at))
         → counts_of new.heap new.most_in_use r

@@ -1,8 +1,6 @@
 mod Common
 mod Walking
-pub mod HeapBox
-pub mod EndBox
-pub mod ArenaBox
+pub mod Boxes
 pub mod Unwrapping
 mod Draining
 mod Putting

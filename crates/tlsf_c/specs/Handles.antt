@@ -1,5 +1,5 @@
 -- The objects behind C's handles.
-use Rattle.std.specs.Prelude.{◌≡◌, ℕ, ◌-◌, ◌%◌, ◌<◌, ◌≤◌, Bool, true, false, List, [], ◌∷◌, ◌++◌, Option, Some, None, Result, is_some, length, map, take}
+use Rattle.std.specs.Prelude.{◌≡◌, ℕ, ◌-◌, ◌%◌, ◌<◌, ◌≤◌, Bool, true, false, List, [], ◌∷◌, ◌++◌, Option, Some, None, Result, IfOk, OnErr, is_some, length, map, take}
 use denote.RawPtr.{Ptr}
 use mathlib.Core.List.{IsPrefix}
 use Rattle.tlsf_heap.specs.Blocks.{HeapState, want}
@@ -82,6 +82,13 @@ pub record NotesOdd (len answer : ℕ) (was is : Bool) : Type 0 where
   pub mixed : answer ≡ 0 → want len % 2 ≡ 1 → is ≡ true
   pub not_mixed : ¬ (want len % 2 ≡ 1) → is ≡ was
   pub no_note : ¬ (answer ≡ 0) → is ≡ was
+
+-- a request for `len` bytes answered so. Where it was given a block, C has the name of it, and an odd one is noted. Where it was refused,
+-- both stay
+pub record NamesBlock (len : ℕ) (answer : Result Name Refusal) (old new : BlockName) (was is : Bool) : Type 0 where
+  pub name : IfOk answer (λ given. given ≡ name_of new)
+  pub no_name : OnErr answer (new ≡ old)
+  pub odd : NotesOdd len (status_of answer) was is
 
 -- what lies in a handle beside its heap stays
 pub record KeepsBeside (old new : HeapSlot) : Type 0 where

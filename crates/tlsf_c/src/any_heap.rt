@@ -8,7 +8,7 @@ ghost use Rattle.tlsf_heap.specs.Touched.{allocate_touches, read_touches, releas
 ghost use Rattle.tlsf_heap.specs.WordsInUse.{words_in_use};
 ghost use Rattle.tlsf_c.specs.Counting.{no_counts, counted, counted_request, recounted};
 ghost use Rattle.tlsf_c.specs.Drains.{ReleasesAll};
-ghost use Rattle.tlsf_c.specs.Handles.{posts_named};
+ghost use Rattle.tlsf_c.specs.Handles.{posts_named, NamesBlock};
 ghost use Rattle.tlsf_c.specs.Levels.{GoesOn, seen_at, GoesOnWith, IsLevel};
 ghost use Rattle.tlsf_heap.specs.Shown.{seen};
 
@@ -75,12 +75,19 @@ impl AnyHeap {
         }
     }
 
-    /// `Heap::allocate`.
-    pub fn allocate(&mut self, len: u32) -> Result<Name, Refusal>
+    /// `Heap::allocate`. The name goes into `into`, and an odd block is noted in `is_mixed`.
+    #[inline(always)]
+    pub fn allocate(
+        &mut self,
+        len: u32,
+        is_mixed: &mut bool,
+        into: &mut BlockName,
+    ) -> Result<Name, Refusal>
         ensures allocates { Allocates allocate_touches self.old.level (want len) len (seen_at self.old) (seen_at self.new) result }
+        ensures names { NamesBlock len result into.old into.new is_mixed.old is_mixed.new }
         ensures goes_on { GoesOnWith self.old self.new (counted_request self.old.counts result len self.new.heap) }
     {
-        at_level!(OfLevel, &mut self.of_level, heap => self.refused.allocate(heap, len))
+        at_level!(OfLevel, &mut self.of_level, heap => self.refused.allocate(heap, len, is_mixed, into))
     }
 
     /// `Heap::release`.

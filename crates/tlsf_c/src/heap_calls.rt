@@ -151,13 +151,9 @@ pub extern "C" fn tlsf_allocate(heap: &mut HeapSlot, len: usize, name: &mut Bloc
         return CallFault::Closed.number();
     }
     let len = saturated(len);
-    let answer = on_heap!(heap, owned => owned.allocate(len));
-    match answer {
-        Ok(new) => {
-            heap.note(len);
-            *name = BlockName::of(new);
-            0
-        }
+    let is_mixed = &mut heap.is_mixed;
+    match on_heap!(heap, owned => owned.allocate(len, is_mixed, name)) {
+        Ok(_) => 0,
         Err(why) => why.number(),
     }
 }
@@ -385,8 +381,10 @@ pub extern "C" fn tlsf_counts(heap: &mut HeapSlot, counts: &mut HeapCounts) -> u
     ensures most { serves heap.old ≡ true → counts.new.words ≤ counts.new.most_words }
 {
     if !heap.serves() {
-        return CallFault::Closed.number();
+        return CallFault::Closed.refusal();
     }
-    on_heap!(heap, owned => *counts = owned.counts());
+
+    // No note that a call is using the heap: it only reads, by a few instructions.
+    *counts = heap.inner.lend().heap.counts();
     0
 }

@@ -1,11 +1,11 @@
 //! A place for a heap in C's memory.
-ghost use Rattle.std.specs.Prelude.{◌≡◌, ◌%◌, true, false, None, Some};
+ghost use Rattle.std.specs.Prelude.{◌≡◌, true, false, None, Some};
 
 use crate::boxed_heap::BoxedHeap;
 use crate::held_heap::HeldHeap;
+use crate::odd_note::note_odd;
 use std::alloc::Global;
 use std::{mem, ptr};
-use tlsf_heap::want;
 
 /// Calls the heap of an open handle where it lies, and notes meanwhile that a call is using it.
 ///
@@ -44,8 +44,7 @@ pub struct HeapSlot {
 unsafe impl Send for HeapSlot {}
 
 impl HeapSlot {
-    ghost use Rattle.tlsf_c.specs.Handles.{KeepsBeside, serves};
-    ghost use Rattle.tlsf_heap.specs.Blocks;
+    ghost use Rattle.tlsf_c.specs.Handles.{KeepsBeside, NotesOdd, serves};
 
     /// Whether it is open, and no call is using it.
     #[inline(always)]
@@ -58,20 +57,15 @@ impl HeapSlot {
         self.is_open && !self.inner.lend().is_in_use
     }
 
-    /// Notes a block of `len` bytes, where it has an odd number of words. It is written once, so that what other threads read beside
-    /// the handle stays in their caches.
+    /// Notes a block of `len` bytes, as `note_odd`.
     #[inline(always)]
     pub fn note(&mut self, len: u32)
-        ensures mixed { Blocks.want len % 2 ≡ 1 → self.new.is_mixed ≡ true }
-        ensures not_mixed { ¬ (Blocks.want len % 2 ≡ 1) → self.new.is_mixed ≡ self.old.is_mixed }
-        ensures stays { self.old.is_mixed ≡ true → self.new.is_mixed ≡ true }
+        ensures mixed { NotesOdd len 0 self.old.is_mixed self.new.is_mixed }
         ensures open { self.new.is_open ≡ self.old.is_open }
         ensures value { self.new.inner.value ≡ self.old.inner.value }
         ensures beside { (self.new.base ≡ self.old.base) × (self.new.number ≡ self.old.number) }
     {
-        if want(len) % 2 == 1 && !self.is_mixed {
-            self.is_mixed = true;
-        }
+        note_odd(&mut self.is_mixed, len);
     }
 
     /// Takes out what is there, and leaves the place closed. A place that is closed or in use stays as it is: a signal handler interrupts

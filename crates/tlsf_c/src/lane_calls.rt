@@ -7,7 +7,7 @@ ghost use Rattle.tlsf_post.specs.Lanes.{taken, ready, IsLane};
 ghost use Rattle.tlsf_c.specs.Handles.{post_of, posts_named, post_in, take_in, holds_post, holds_take, sent_in, known_slots, taken_in, ready_in, AreEnds, AreLane, HasTaken, Takes, end_serves, serves, ClosesEnd, OnPost, OnTake, PutsNames};
 ghost use Rattle.tlsf_c.specs.Drains.{Drains, DrainsEnd};
 ghost use Rattle.tlsf_c.specs.Names.{name_of};
-ghost use Rattle.tlsf_c.specs.Takes.{HasTakenFirst, TakesFirst};
+ghost use Rattle.tlsf_c.specs.Takes.{HasTakenFirst, TakesFirst, TakesThese};
 ghost use Rattle.tlsf_c.specs.Refusals.{full, empty};
 ghost use Rattle.tlsf_c.specs.Serving.{Opens};
 ghost use Rattle.tlsf_c.specs.declared.end_slot.EndSlot.{EndSlot};
@@ -26,6 +26,9 @@ use tlsf_post::{Post, PostEnd, TakeEnd, lane};
 /// beside such a poster a full lane is drained faster by slices than by single names. An empty drain fills this many places in
 /// vain.
 const AT_ONCE: usize = 32;
+
+/// How many names a shorter list has: most often no more wait.
+const FEW: usize = 20;
 
 /// The value in a place that no post came into.
 const NO_POST: Post = Post {
@@ -288,7 +291,7 @@ pub extern "C" fn tlsf_take_all(
     0
 }
 
-/// Takes up to 32 names out of a lane with one store, in their order, and answers how many came.
+/// Takes up to 32 names out of a lane with one store, in their order, and answers how many came. It looks first how many are ready.
 fn take_names(end: &mut TakeEnd, names: &mut [BlockName]) -> usize
     ensures lane { (p : PostEnd) → IsLane p end.old → IsLane p end.new }
     ensures taken { HasTakenFirst end.old end.new result names.new }
@@ -297,14 +300,56 @@ fn take_names(end: &mut TakeEnd, names: &mut [BlockName]) -> usize
     ensures ready { result < length names.old → result < 32 → length (ready end.old) ≤ result }
     ensures none { result ≡ 0 → (names.new ≡ names.old) × (taken end.new ≡ taken end.old) }
 {
-    let mut posts = [NO_POST; AT_ONCE];
-    let (places, _) = posts.split_at_mut(AT_ONCE.min(names.len()));
-    let count = end.take_slice(places);
-    let (came, _) = places.split_at(count);
+    let count = end.look(AT_ONCE.min(names.len()));
+    let (places, _) = names.split_at_mut(count);
+    take_ready(end, places);
+    count
+}
+
+/// Fills each place with a name, by a list that is no longer than need be. All these names are known to be ready.
+#[inline(always)]
+fn take_ready(end: &mut TakeEnd, names: &mut [BlockName])
+    requires { (length names.old ≤ 32) × (length names.old ≤ length (ready end.old)) }
+    ensures { TakesThese end.old end.new names.new }
+{
+    if names.len() > FEW {
+        take_many(end, names);
+    } else if names.len() > 1 {
+        take_few(end, names);
+    } else if names.len() == 1 {
+        take_name(end, &mut names[0]);
+    }
+}
+
+/// `take_by` for up to 32 names. Its list is filled where it begins, so one that isn't taken costs nothing.
+#[inline(always)]
+fn take_many(end: &mut TakeEnd, names: &mut [BlockName])
+    requires { (length names.old ≤ 32) × (length names.old ≤ length (ready end.old)) }
+    ensures { TakesThese end.old end.new names.new }
+{
+    take_by(&mut [NO_POST; AT_ONCE], end, names);
+}
+
+/// `take_by` for up to 20 names.
+#[inline(always)]
+fn take_few(end: &mut TakeEnd, names: &mut [BlockName])
+    requires { (length names.old ≤ 20) × (length names.old ≤ length (ready end.old)) }
+    ensures { TakesThese end.old end.new names.new }
+{
+    take_by(&mut [NO_POST; FEW], end, names);
+}
+
+/// Fills each place with a name, by the first of `posts`, with one store. All these names are known to be ready.
+#[inline(always)]
+fn take_by(posts: &mut [Post], end: &mut TakeEnd, names: &mut [BlockName])
+    requires { (length names.old ≤ length posts.old) × (length names.old ≤ length (ready end.old)) }
+    ensures { TakesThese end.old end.new names.new }
+{
+    let (came, _) = posts.split_at_mut(names.len());
+    end.take_slice(came);
     for (k, post) in came.iter().enumerate() {
         names[k] = BlockName::of(post.name);
     }
-    count
 }
 
 /// Takes names out of a lane, at most `most` and all that are known to be ready. It releases the block that each names, whatever

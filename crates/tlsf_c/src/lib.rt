@@ -26,6 +26,7 @@ mod lane_calls;
 mod lengths;
 mod may_cross;
 mod names;
+mod odd_note;
 mod offset_calls;
 mod parts;
 mod place_calls;

@@ -19,7 +19,7 @@ ghost use Rattle.tlsf_c.specs.Counting.{counted_request, counted_move, recounted
 ghost use Rattle.tlsf_c.specs.Lengths.{saturated};
 ghost use Rattle.tlsf_c.specs.Names.{name_of, info_of, not_placed, placed_name};
 ghost use Rattle.tlsf_c.specs.PlaceCalls.{length_at};
-ghost use Rattle.tlsf_heap.specs.Touched.{allocate_aligned_touches, allocate_unset_touches, move_unset_touches, release_at_touches, resize_unset_touches};
+ghost use Rattle.tlsf_heap.specs.Touched.{allocate_aligned_touches, allocate_touches, move_unset_touches, release_at_touches, resize_unset_touches};
 ghost use Rattle.tlsf_c.specs.Refusals.{status_of, closed, damage};
 
 use crate::call_fault::{CallFault, check_status, status};
@@ -39,10 +39,10 @@ use tlsf_heap::{Content, PlacedBlock, Refusal};
 #[unsafe(no_mangle)]
 pub extern "C" fn tlsf_allocate_place(heap: &mut HeapSlot, len: usize) -> PlacedName
     ensures { OnHeap heap.old heap.new (result ≡ not_placed closed) (counted_request (counts_in heap.old) (allocated_in heap.old (saturated len)) (saturated len) (heap_in heap.new))
-        (Tells placed_name result (allocated_in heap.old (saturated len)) (AllocatesUnset allocate_unset_touches (level_in heap.old) (saturated len) (seen_in heap.old) (seen_in heap.new) (stored_in heap.new))) }
+        (Tells placed_name result (allocated_in heap.old (saturated len)) (AllocatesUnset allocate_touches (level_in heap.old) (want (saturated len)) (saturated len) (seen_in heap.old) (seen_in heap.new) (stored_in heap.new))) }
 {
     if !heap.serves() {
-        return PlacedName::refusal(CallFault::Closed.number());
+        return PlacedName::refusal(CallFault::Closed.refusal());
     }
     let len = saturated(len);
     let answer = on_heap!(heap, owned => owned.allocate_unset(len));
@@ -70,7 +70,7 @@ pub extern "C" fn tlsf_allocate_aligned(
         (Tells placed_name result (words_aligned (level_in heap.old) (heap_in heap.old) (want (saturated len)) (max step 1) skew).answer (AllocatesAligned allocate_aligned_touches (level_in heap.old) (saturated len) (max step 1) skew (seen_in heap.old) (seen_in heap.new) (stored_in heap.new))) }
 {
     if !heap.serves() {
-        return PlacedName::refusal(CallFault::Closed.number());
+        return PlacedName::refusal(CallFault::Closed.refusal());
     }
     let len = saturated(len);
     let answer = on_heap!(heap, owned => owned.allocate_aligned(len, step, skew));

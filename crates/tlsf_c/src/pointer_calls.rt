@@ -1,7 +1,8 @@
 //! C's call of a heap by pointer.
 ghost use Rattle.std.specs.Prelude.{◌≡◌, ◌≤◌, ◌<◌};
+ghost use Rattle.tlsf_heap.specs.Blocks.{want};
 ghost use Rattle.tlsf_heap.specs.Effects.{AllocatesUnset};
-ghost use Rattle.tlsf_heap.specs.Touched.{allocate_unset_touches};
+ghost use Rattle.tlsf_heap.specs.Touched.{allocate_touches};
 ghost use Rattle.tlsf_c.specs.Counting.{counted_request};
 ghost use Rattle.tlsf_c.specs.Handles.{counts_in, heap_in, level_in, seen_in, stored_in, OnHeap, Tells, allocated_in};
 ghost use Rattle.tlsf_c.specs.Pointers;
@@ -22,7 +23,7 @@ use crate::heap_slot::{HeapSlot, on_heap};
 pub extern "C" fn tlsf_allocate_payload(heap: &mut HeapSlot, len: usize) -> usize
     ensures long { longest < len → (result ≡ 0) × (heap.new ≡ heap.old) }
     ensures heap { len ≤ longest → OnHeap heap.old heap.new (result ≡ 0) (counted_request (counts_in heap.old) (allocated_in heap.old (Pointers.rounded len)) (Pointers.rounded len) (heap_in heap.new))
-        (Tells first_byte result (allocated_in heap.old (Pointers.rounded len)) (AllocatesUnset allocate_unset_touches (level_in heap.old) (Pointers.rounded len) (seen_in heap.old) (seen_in heap.new) (stored_in heap.new))) }
+        (Tells first_byte result (allocated_in heap.old (Pointers.rounded len)) (AllocatesUnset allocate_touches (level_in heap.old) (want (Pointers.rounded len)) (Pointers.rounded len) (seen_in heap.old) (seen_in heap.new) (stored_in heap.new))) }
 {
     if !heap.serves() || len > LONGEST {
         return 0;

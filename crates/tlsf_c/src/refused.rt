@@ -2,11 +2,14 @@
 ghost use Rattle.std.specs.Prelude.{◌≡◌, max};
 ghost use Rattle.tlsf_heap.specs.Blocks;
 ghost use Rattle.tlsf_heap.specs.Effects.{Allocates, AllocatesAligned, AllocatesUnset, Moves, MovesUnsetAt};
-ghost use Rattle.tlsf_heap.specs.Touched.{allocate_aligned_touches, allocate_touches, allocate_unset_touches, move_touches, move_unset_touches, resize_touches, resize_unset_touches};
+ghost use Rattle.tlsf_heap.specs.Touched.{allocate_aligned_touches, allocate_touches, move_touches, move_unset_touches, resize_touches, resize_unset_touches};
 ghost use Rattle.tlsf_heap.specs.Shown.{seen};
+ghost use Rattle.tlsf_c.specs.Handles.{NamesBlock};
 ghost use Rattle.tlsf_c.specs.Counting.{none_refused, noted, noted_if, counts_of, counted_request, counted_move};
 
-use tlsf_heap::{Heap, Name, Refusal, want};
+use crate::names::BlockName;
+use crate::odd_note::note_odd;
+use tlsf_heap::{Heap, Name, Refusal};
 
 /// How many requests were refused as NoFit since the heap was opened, and the longest of them.
 #[derive(Clone, Copy)]
@@ -48,20 +51,31 @@ impl Refused {
         }
     }
 
-    /// `Heap::allocate`.
+    /// `Heap::allocate`. The name goes into `into`, and an odd block is noted in `is_mixed`.
+    // The zeros come last, when all else is written: so one register is held over them, and not five.
     #[inline(always)]
     pub fn allocate<const SLI: u32>(
         &mut self,
         heap: &mut Heap<SLI>,
         len: u32,
+        is_mixed: &mut bool,
+        into: &mut BlockName,
     ) -> Result<Name, Refusal>
         ensures allocates { Allocates allocate_touches SLI (Blocks.want len) len (seen heap.old) (seen heap.new) result }
+        ensures names { NamesBlock len result into.old into.new is_mixed.old is_mixed.new }
         ensures counts { counts_of heap.new.heap heap.new.most_in_use self.new ≡ counted_request (counts_of heap.old.heap heap.old.most_in_use self.old) result len heap.new.heap }
         ensures stays { heap.new.extents ≡ heap.old.extents }
     {
-        let answer = heap.allocate_words(want(len), len);
+        let answer = heap.allocate_unset(len);
         self.note(&answer, len);
-        answer
+        let new = match answer {
+            Ok(new) => new,
+            Err(why) => return Err(why),
+        };
+        note_odd(is_mixed, len);
+        *into = BlockName::of(new);
+        heap.zero_payload(new, len);
+        Ok(new)
     }
 
     /// `Heap::allocate_unset`.
@@ -71,7 +85,7 @@ impl Refused {
         heap: &mut Heap<SLI>,
         len: u32,
     ) -> Result<Name, Refusal>
-        ensures allocates { AllocatesUnset allocate_unset_touches SLI len (seen heap.old) (seen heap.new) heap.new.stored result }
+        ensures allocates { AllocatesUnset allocate_touches SLI (Blocks.want len) len (seen heap.old) (seen heap.new) heap.new.stored result }
         ensures counts { counts_of heap.new.heap heap.new.most_in_use self.new ≡ counted_request (counts_of heap.old.heap heap.old.most_in_use self.old) result len heap.new.heap }
         ensures stays { heap.new.extents ≡ heap.old.extents }
     {

@@ -1,7 +1,8 @@
 //! The heap of C's calls by place, whose level is told when it is opened.
 ghost use Rattle.std.specs.Prelude.{◌≡◌, max};
+ghost use Rattle.tlsf_heap.specs.Blocks.{want};
 ghost use Rattle.tlsf_heap.specs.Effects.{AllocatesAligned, AllocatesUnset, ChecksBlocks, Looks, Moves, MovesUnsetAt, NamesAt, ReleasesAt};
-ghost use Rattle.tlsf_heap.specs.Touched.{allocate_aligned_touches, allocate_unset_touches, move_touches, move_unset_touches, release_at_touches, resize_touches, resize_unset_touches};
+ghost use Rattle.tlsf_heap.specs.Touched.{allocate_aligned_touches, allocate_touches, move_touches, move_unset_touches, release_at_touches, resize_touches, resize_unset_touches};
 ghost use Rattle.tlsf_c.specs.Counting.{counted_request, counted_move, recounted};
 ghost use Rattle.tlsf_c.specs.Levels.{seen_at, GoesOnWith};
 
@@ -29,7 +30,7 @@ impl AnyHeap {
     // Always inline: two of C's calls end in it, and a call of its own would take each twenty instructions more.
     #[inline(always)]
     pub fn allocate_unset(&mut self, len: u32) -> Result<Name, Refusal>
-        ensures allocates { AllocatesUnset allocate_unset_touches self.old.level len (seen_at self.old) (seen_at self.new) self.new.stored result }
+        ensures allocates { AllocatesUnset allocate_touches self.old.level (want len) len (seen_at self.old) (seen_at self.new) self.new.stored result }
         ensures goes_on { GoesOnWith self.old self.new (counted_request self.old.counts result len self.new.heap) }
     {
         at_level!(OfLevel, &mut self.of_level, heap => self.refused.allocate_unset(heap, len))

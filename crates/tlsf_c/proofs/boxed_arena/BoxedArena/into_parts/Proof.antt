@@ -1,21 +1,21 @@
 -- `into_parts` moves two fields, and what they own goes with them.
-use Rattle.tlsf_c.proofs.Walking.{proved_at, Option, is_some, D, B, word, box_typed, box_out, box_in, refl, sym, subst, List, [], ◌∷◌, ◌++◌, ◌≡◌, true, Val, fact, ent, id⊢, ftrue, fsep, WpFn, tables, Item, rewrite, ‵, raw, ◌⊛◌, ◌$◌, ◌∵◌, !, qed, by, move, drop, use1, join, split, fsplit, fjoin, suffices, done, whole, sub, agg, stop, fld, no_more, and_then, of_opd, returns, enter, alloc_all, pass_all, free_all, look_at, get, get_in, sets, yes, type_at, nothing, heard, says, Stays, stay_dropped, walk_of, ends_at, Goes-dropped}
+use Rattle.tlsf_c.proofs.Walking.{proved_at, Option, is_some, D, B, word, box_typed, box_out, box_in, refl, sym, subst, List, [], ◌∷◌, ◌++◌, ◌≡◌, true, Val, fact, ent, id⊢, ftrue, fsep, WpFn, tables, Item, rewrite, ‵, raw, ◌⊛◌, ◌$◌, ◌∵◌, !, qed, by, move, drop, use1, join, split, fsplit, fjoin, suffices, done, whole, sub, agg, stop, fld, no_more, and_then, of_opd, returns, enter, alloc_all, pass_all, free_all, look_at, get, get_in, sets, yes, type_at, plain, nothing, heard, says, Stays, stay_dropped, walk_of, ends_at, Goes-dropped}
 use Rattle.tlsf_c.specs.declared.any_arena.AnyArena.{AnyArena}
 use Rattle.tlsf_c.proofs.Unwrapping.{held_of}
 use Rattle.tlsf_c.specs.contracts.boxed_arena.BoxedArena as Sealed
-use Rattle.tlsf_c.proofs.ArenaBox.{E, FromSeal as From}
+use Rattle.tlsf_c.proofs.Boxes.{arena as E}
 use Rattle.tlsf_c.specs.contracts.boxed_arena.BoxedArena.into_parts as F
 use Rattle.tlsf_c.specs.contracts.boxed_arena.BoxedArena.into_parts.Key.{name as #self}
 use Rattle.tlsf_c.proofs.boxed_arena.BoxedArena.into_parts.Statement as stated
 use Rattle.tlsf_c.proofs.boxed_arena.BoxedArena.into_parts.Code as code
 
 abbrev stayed : Stays (F.ended).signature.params (F.ended).kept
-stayed = (stay_dropped From yes, tt)
+stayed = (stay_dropped (plain (λ _. Sealed.the_row)) yes, tt)
 
 pub into_parts_spec : {M : Type 1} → stated.statement M
 into_parts_spec 𝓤 𝓛 𝓜 𝓡 wired =
     let H = 𝓛.H in let 𝓣 = tables 𝓤 H 𝓜 𝓡 𝓡.env in let c = F.clauses 𝓛 𝓜.mem 𝓡.returns in
-    proved_at 𝓛 F.ended stayed c 𝓜 𝓡 (Goes-dropped 𝓛 0 From yes (λ κs x f. refl), tt) #self code.function (code.unfolded 𝓤 H 𝓜 𝓡 wired) (λ z _.
+    proved_at 𝓛 F.ended stayed c 𝓜 𝓡 (Goes-dropped 𝓛 0 (plain (λ _. Sealed.the_row)) yes (λ κs x f. refl), tt) #self code.function (code.unfolded 𝓤 H 𝓜 𝓡 wired) (λ z _.
     let Post = (walk_of 𝓛 F.ended stayed c).post z in
     let s = z.0.3.0 in
     let To = type_at (F.signature).result tt in

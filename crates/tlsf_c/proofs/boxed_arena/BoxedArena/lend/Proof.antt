@@ -12,7 +12,7 @@ use Rattle.tlsf_c.specs.Lending.{holding_arena as holding}
 use Rattle.tlsf_c.specs.declared.boxed_arena.BoxedArena.{BoxedArena}
 use Rattle.tlsf_c.specs.contracts.any_arena.AnyArena as Home
 use Rattle.tlsf_c.specs.contracts.boxed_arena.BoxedArena as Sealed
-use Rattle.tlsf_c.proofs.ArenaBox.{E}
+use Rattle.tlsf_c.proofs.Boxes.{arena as E}
 use Rattle.tlsf_c.proofs.Unwrapping.{held_of}
 use Rattle.tlsf_c.specs.contracts.boxed_arena.BoxedArena.lend as F
 use Rattle.tlsf_c.specs.contracts.boxed_arena.BoxedArena.lend.Key.{name as #self}

@@ -2,7 +2,7 @@
 use Rattle.tlsf_c.proofs.Walking.{proved_at, None, α, Fits, handle_tells, box_ty, and_tt, refl, sym, subst, List, [], ◌∷◌, ◌++◌, T, lit<, ty_ptr, Val, has_ty, WT, vstruct, vcons, vnil, ent, emp, id⊢, ftrue, WpFn, tables, Item, ‵, raw, ◌⊛◌, ◌$◌, ◌∵◌, !, qed, by, move, drop, use1, join, split, fsplit, fjoin, feq_l, feq_i, fpack, suffices, done, agg, no_more, and_then, returns, enter, alloc_all, pass_all, free_all, look_at, get, sets, yes, owns, Valss, RawPtr, Ptr, block_ptr, null_ptr, ptr_val, type_at, plain, nothing, within, shape, says, Stays, stay_dropped, walk_of, ends_at, Goes-dropped}
 use Rattle.std_heap.specs.contracts.Global as Heap
 use Rattle.tlsf_c.specs.contracts.boxed_end.BoxedEnd as Sealed
-use Rattle.tlsf_c.proofs.EndBox.{E}
+use Rattle.tlsf_c.proofs.Boxes.{end as E}
 use Rattle.tlsf_c.specs.contracts.boxed_end.BoxedEnd.empty as F
 use Rattle.tlsf_c.specs.contracts.boxed_end.BoxedEnd.empty.Key.{name as #self}
 use Rattle.tlsf_c.proofs.boxed_end.BoxedEnd.empty.Statement as stated

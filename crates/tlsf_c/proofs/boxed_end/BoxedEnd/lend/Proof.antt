@@ -12,7 +12,7 @@ use Rattle.tlsf_c.specs.Lending.{holding_end as holding}
 use Rattle.tlsf_c.specs.declared.boxed_end.BoxedEnd.{BoxedEnd}
 use Rattle.tlsf_c.specs.contracts.any_end.AnyEnd as Home
 use Rattle.tlsf_c.specs.contracts.boxed_end.BoxedEnd as Sealed
-use Rattle.tlsf_c.proofs.EndBox.{E}
+use Rattle.tlsf_c.proofs.Boxes.{end as E}
 use Rattle.tlsf_c.proofs.Unwrapping.{held_of}
 use Rattle.tlsf_c.specs.contracts.boxed_end.BoxedEnd.lend as F
 use Rattle.tlsf_c.specs.contracts.boxed_end.BoxedEnd.lend.Key.{name as #self}

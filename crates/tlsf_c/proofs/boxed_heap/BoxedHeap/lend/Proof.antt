@@ -12,7 +12,7 @@ use Rattle.tlsf_c.specs.declared.boxed_heap.BoxedHeap.{BoxedHeap}
 use Rattle.tlsf_c.specs.declared.held_heap.HeldHeap.{HeldHeap}
 use Rattle.tlsf_c.specs.contracts.held_heap.HeldHeap as Home
 use Rattle.tlsf_c.specs.contracts.boxed_heap.BoxedHeap as Sealed
-use Rattle.tlsf_c.proofs.HeapBox.{E}
+use Rattle.tlsf_c.proofs.Boxes.{heap as E}
 use Rattle.tlsf_c.specs.contracts.boxed_heap.BoxedHeap.lend as F
 use Rattle.tlsf_c.specs.contracts.boxed_heap.BoxedHeap.lend.Key.{name as #self}
 use Rattle.tlsf_c.proofs.boxed_heap.BoxedHeap.lend.Statement as stated
