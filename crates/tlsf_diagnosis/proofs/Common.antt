@@ -2,10 +2,10 @@
 pub use Rattle.std.proofs.Common.{◌≡◌, ℕ, List, arith, ap, subst, sym, ◌+◌, ◌∙◌, drop, Some, refl, None, Option, inl, length, ◌++◌, [], inr, take, ◌∷◌, Bool, Err, false, suc, ◌-◌, string_bytes, true, cond, ◌<◌, ◌≤◌, ◌⊎◌, is_some, map, rules, zero, Ok, codes, count_by, unwrap_or, ◌==◌, Bor, Result, add-one, append-nil, append_assoc, length-append, length-drop, min, option_and_then, option_map, slice_get, ◌&&◌, ◌≢◌}
 pub use Rattle.std.specs.Prelude.{IfSome, MatchBool}
 pub use Rattle.tlsf_diagnosis.specs.FieldFaults.{IsFieldOf, GoAstrayAt, is_line, CanBegin, IsFirstWrong, is_header, is_shaped, HasFirstBadNumberAt, IsFirstBad, IsFoundIn, IsWrongOrLast}
-pub use Rattle.tlsf_diagnosis.specs.Kinds.{passes, header_kinds, kinds_behind, workers_by, workers_in}
+pub use Rattle.tlsf_diagnosis.specs.Kinds.{passes, header_kinds, workers_by, workers_in}
 pub use Rattle.tlsf_diagnosis.specs.Passing.{all_pass, passing_count, FindsWrong, IsFirstFailing}
 pub use Rattle.tlsf_diagnosis.specs.Shown.{HasBefore, spaces_in, IsFieldAt, MarksField, ShowsAt, ShowsField, columns_in, shown_byte, without_feed}
-pub use Rattle.tlsf_diagnosis.specs.declared.kind.Kind.{Kind}
+pub use Rattle.tlsf_lines.specs.declared.kind.Kind.{Kind}
 pub use Rattle.tlsf_lines.specs.CutFields.{fields_of, fields_left}
 pub use Rattle.tlsf_lines.specs.Fields.{field, fields_in, values_in, ◌>>=◌, is_digits, value_in}
 pub use Rattle.tlsf_lines.specs.Header.{header_of, number_in, number_of_value}

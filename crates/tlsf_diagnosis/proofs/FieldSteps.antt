@@ -4,7 +4,8 @@ use Rattle.std.specs.List.{join_with_byte}
 use Rattle.tlsf_diagnosis.specs.Notes.{tip_row}
 use Rattle.tlsf_diagnosis.specs.Tips.{is_tipped, takes_number, wants_tip}
 use Rattle.std.proofs.lemmas.List.{length-take-le, take-append-drop, take_at}
-use Rattle.std.proofs.lemmas.List.Splits.{join_with_byte-slice_split, length-slice_split}
+use Rattle.std.proofs.lemmas.List.Splits.{join_with_byte-slice_split}
+use Rattle.tlsf_lines.proofs.CutSteps.{fields_count}
 use Rattle.std.proofs.lemmas.List.Sums.{sum_by-append, sum_by-cons}
 
 pub spaces_both : (a b : List ℕ) → spaces_in (a ++ b) ≡ spaces_in a + spaces_in b
@@ -19,9 +20,6 @@ join_more field (next ∷ fields) some = refl
 
 fields_joined : (line : List ℕ) → join_with_byte 32 (fields_of line) ≡ line
 fields_joined line = join_with_byte-slice_split 32 line
-
-fields_count : (line : List ℕ) → length (fields_of line) ≡ spaces_in line + 1
-fields_count line = length-slice_split (λ byte. byte == 32) line
 
 -- a field that is cut off stands before a space and the fields that are left, and has no space
 pub cut_is : (rest behind field : List ℕ) → fields_of rest ≡ field ∷ fields_of behind → rest ≡ field ++ 32 ∷ behind

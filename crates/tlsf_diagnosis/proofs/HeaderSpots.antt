@@ -8,7 +8,7 @@ use Rattle.tlsf_lines.specs.declared.version.Version.{Version}
 use Rattle.tlsf_lines.specs.declared.version.Version.TheVariants.{One, Two}
 use Rattle.hex.proofs.OnLiterals.{hex_on_literals}
 use Rattle.tlsf_diagnosis.specs.declared.judge.Judge.TheVariants as judge
-use Rattle.tlsf_diagnosis.specs.declared.kind.Kind.TheVariants.{Worker, Payload, Workers, Words, Capacity}
+use Rattle.tlsf_lines.specs.declared.kind.Kind.TheVariants.{Worker, Payload, Workers, Words, Capacity}
 use Rattle.tlsf_diagnosis.proofs.Astray.{astray_at, never}
 use Rattle.tlsf_diagnosis.proofs.LineSpots.{last_of, wrong_or_last}
 use Rattle.tlsf_diagnosis.proofs.PassingSteps.{front_passes, next_fails}

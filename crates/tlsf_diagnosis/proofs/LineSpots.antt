@@ -1,36 +1,19 @@
 -- The field of a line's fault.
-use Rattle.tlsf_diagnosis.proofs.Common.{◌≡◌, ◌≢◌, ◌⊎◌, inl, inr, ℕ, zero, suc, ◌+◌, ◌-◌, ◌<◌, ◌==◌, count_by, Bool, true, false, cond, is_some, List, [], ◌∷◌, ◌++◌, length, take, drop, map, codes, slice_get, Option, Some, None, option_map, unwrap_or, Err, refl, sym, ap, subst, ◌∙◌, arith, MatchBool, fields_of, ◌>>=◌, fields_in, is_digits, value_in, values_in, number_of_value, kinds_of, line_from, keyword_of, keywords, judged_line, Line, LineFault, GoAstrayAt, HasFirstBadNumberAt, IsFieldOf, IsFirstBad, IsFirstWrong, IsWrongOrLast, is_line, is_shaped, kinds_behind, passes, FindsWrong, IsFirstFailing, all_pass, passing_count, Kind}
+use Rattle.tlsf_diagnosis.proofs.Common.{◌≡◌, ◌≢◌, ◌⊎◌, inl, inr, ℕ, zero, suc, ◌+◌, ◌-◌, ◌<◌, ◌==◌, count_by, Bool, true, false, cond, is_some, List, [], ◌∷◌, ◌++◌, length, take, drop, map, codes, slice_get, Option, Some, None, option_map, unwrap_or, Err, refl, sym, ap, subst, ◌∙◌, arith, MatchBool, fields_of, ◌>>=◌, fields_in, is_digits, value_in, values_in, number_of_value, kinds_of, line_from, keyword_of, keywords, judged_line, Line, LineFault, GoAstrayAt, HasFirstBadNumberAt, IsFieldOf, IsFirstBad, IsFirstWrong, IsWrongOrLast, is_line, is_shaped, kinds_of, passes, FindsWrong, IsFirstFailing, all_pass, passing_count, Kind}
 use Rattle.hex.proofs.OnLiterals.{hex_on_literals}
 use Rattle.tlsf_calls.specs.declared.chunk.Chunk.{Chunk}
 use Rattle.tlsf_lines.specs.Payloads.{chunk_in}
 use Rattle.tlsf_lines.specs.Values.{Value, Number, BadNumber, Bytes}
-use Rattle.tlsf_lines.specs.Values as spelled
 use Rattle.tlsf_lines.specs.declared.line_fault.LineFault.TheVariants as fault
 use Rattle.tlsf_lines.specs.declared.keyword.Keyword.{Keyword}
 use Rattle.tlsf_lines.specs.declared.keyword.Keyword.TheVariants as keyword
 use Rattle.tlsf_lines.proofs.CutSteps.{fields_count}
 use Rattle.tlsf_lines.proofs.LineJudged.{without_feed}
 use Rattle.tlsf_diagnosis.specs.declared.judge.Judge.TheVariants as judge
-use Rattle.tlsf_diagnosis.specs.declared.kind.Kind.TheVariants.{Worker, Label, Length, Offset, Payload, Count, Most, Workers, Words, Capacity}
+use Rattle.tlsf_lines.specs.declared.kind.Kind.TheVariants.{Worker, Label, Payload}
 use Rattle.tlsf_diagnosis.proofs.Astray.{astray_at, never}
 use Rattle.tlsf_diagnosis.proofs.Refusals.{Tells, line_is_shaped, told, unshaped_is_no_line}
 use Rattle.tlsf_diagnosis.proofs.PassingSteps.{front_passes, next_fails}
-
--- ---- the kinds of a line's fields, as `tlsf_lines` has them
-
-abbrev kind_of : Kind → spelled.Kind
-kind_of Worker = spelled.Worker
-kind_of Label = spelled.Label
-kind_of Length = spelled.Length
-kind_of Offset = spelled.Offset
-kind_of Payload = spelled.Hex
-kind_of Count = spelled.Count
-kind_of Most = spelled.Most
-kind_of _ = spelled.Label  -- in no line behind the header
-
-kinds_told : (w : Keyword) → map kind_of (kinds_behind w) ≡ kinds_of w
-kinds_told keyword.Allocate = refl
-kinds_told w = refl
 
 -- ---- shapes
 
@@ -45,7 +28,7 @@ payload_shown : (chunk : Option Chunk) → is_some (option_map (λ c. Bytes c) c
 payload_shown None = refl
 payload_shown (Some chunk) = refl
 
-shape_told : (workers : ℕ) (kind : Kind) (field : List ℕ) → is_some (value_in workers (kind_of kind) field) ≡ shape kind field
+shape_told : (workers : ℕ) (kind : Kind) (field : List ℕ) → is_some (value_in workers kind field) ≡ shape kind field
 shape_told workers Payload field = payload_shown (chunk_in field)
 shape_told workers kind field = digits_shown (is_digits field) _
 
@@ -54,13 +37,13 @@ both None values = refl
 both (Some v) None = refl
 both (Some v) (Some vs) = refl
 
-shapes_told : (workers : ℕ) (kinds : List Kind) (fields : List (List ℕ)) → is_some (values_in workers (map kind_of kinds) fields) ≡ all_pass shape kinds fields
+shapes_told : (workers : ℕ) (kinds : List Kind) (fields : List (List ℕ)) → is_some (values_in workers kinds fields) ≡ all_pass shape kinds fields
 shapes_told workers [] [] = refl
 shapes_told workers [] (field ∷ fields) = refl
 shapes_told workers (kind ∷ kinds) [] = refl
 shapes_told workers (kind ∷ kinds) (field ∷ fields) =
-    both (value_in workers (kind_of kind) field) (values_in workers (map kind_of kinds) fields)
-    ∙ (ap (λ b. cond b (is_some (values_in workers (map kind_of kinds) fields)) false) (shape_told workers kind field)
+    both (value_in workers kind field) (values_in workers kinds fields)
+    ∙ (ap (λ b. cond b (is_some (values_in workers kinds fields)) false) (shape_told workers kind field)
     ∙ ap (λ b. cond (shape kind field) b false) (shapes_told workers kinds fields))
 
 -- a field of each kind
@@ -74,11 +57,9 @@ sample_passes Worker = refl
 sample_passes kind = refl
 
 -- after a keyword a line has its shape where its fields pass
-shaped_line : (workers : ℕ) (first : List ℕ) (w : Keyword) (fields : List (List ℕ)) → keyword_of keywords first ≡ Some w → is_shaped workers (first ∷ fields) ≡ all_pass shape (kinds_behind w) fields
+shaped_line : (workers : ℕ) (first : List ℕ) (w : Keyword) (fields : List (List ℕ)) → keyword_of keywords first ≡ Some w → is_shaped workers (first ∷ fields) ≡ all_pass shape (kinds_of w) fields
 shaped_line workers first w fields is =
-    let as_kinds : is_some (values_in workers (kinds_of w) fields) ≡ all_pass shape (kinds_behind w) fields =
-    ap (λ kinds. is_some (values_in workers kinds fields)) (sym (kinds_told w)) ∙ shapes_told workers (kinds_behind w) fields in
-    rw is as_kinds
+    rw is (shapes_told workers (kinds_of w) fields)
 
 -- ---- a choice between two facts, by what is chosen
 
@@ -116,9 +97,9 @@ module _ (workers : ℕ) (first : List ℕ) (fields : List (List ℕ)) where
 
   -- a keyword, and fields after it that have not its shape
   module _ (w : Keyword) (is : keyword_of keywords first ≡ Some w) where
-    astray_behind : (n m : ℕ) → m ≡ passing_count shape (kinds_behind w) fields → all_pass shape (kinds_behind w) fields ≡ false → n ≡ m + 2 → GoAstrayAt (is_shaped workers) (first ∷ fields) n
+    astray_behind : (n m : ℕ) → m ≡ passing_count shape (kinds_of w) fields → all_pass shape (kinds_of w) fields ≡ false → n ≡ m + 2 → GoAstrayAt (is_shaped workers) (first ∷ fields) n
     astray_behind n m count fails at =
-        let kinds = kinds_behind w in
+        let kinds = kinds_of w in
         let begun = shaped_line workers first w (take (passing_count shape kinds fields) fields ++ map sample (drop (passing_count shape kinds fields) kinds)) is
         ∙ front_passes shape sample sample_passes kinds fields in
         astray_at (is_shaped workers) (first ∷ fields) (suc (passing_count shape kinds fields)) n (omega (arith, count, at))
@@ -129,7 +110,7 @@ module _ (workers : ℕ) (first : List ℕ) (fields : List (List ℕ)) where
           | inr ends ↦ inr (ap (λ k. suc k) ends)
         ])
 
-    pub no_shape : (m : ℕ) → IsFirstFailing shape (kinds_behind w) fields (Some m) → FindsWrong (is_line workers) (IsFirstWrong workers) (first ∷ fields) (Some (m + 2))
+    pub no_shape : (m : ℕ) → IsFirstFailing shape (kinds_of w) fields (Some m) → FindsWrong (is_line workers) (IsFirstWrong workers) (first ∷ fields) (Some (m + 2))
     no_shape m fails =
         unshaped workers (first ∷ fields) (m + 2) (shaped_line workers first w fields is ∙ fails.0) (astray_behind (m + 2) m fails.1 fails.0 refl)
 
@@ -139,39 +120,19 @@ abbrev pub good : ℕ → Kind → List ℕ → Bool
 good workers kind field = passes (judge.Number workers) kind field
 
 -- a value of its kind that is no bad number
-abbrev is_good : spelled.Kind → Value → Bool
-is_good spelled.Hex (Bytes bytes) = true
-is_good spelled.Hex (Number n) = false
-is_good spelled.Hex BadNumber = false
+abbrev is_good : Kind → Value → Bool
+is_good Payload (Bytes bytes) = true
+is_good Payload (Number n) = false
+is_good Payload BadNumber = false
 is_good kind (Number n) = true
 is_good kind _ = false
 
--- a kind of a line's fields
-abbrev IsOfLine : Kind → Type 0
-IsOfLine Workers = ⊥
-IsOfLine (Words version) = ⊥
-IsOfLine Capacity = ⊥
-IsOfLine kind = Unit {0}
-
-abbrev AreOfLine : List Kind → Type 0
-AreOfLine [] = Unit {0}
-AreOfLine (kind ∷ kinds) = IsOfLine kind × AreOfLine kinds
-
-are_of_line : (w : Keyword) → AreOfLine (kinds_behind w)
-are_of_line keyword.Allocate = (tt, (tt, (tt, tt)))
-are_of_line keyword.Release = (tt, (tt, tt))
-are_of_line keyword.Write = (tt, (tt, (tt, (tt, tt))))
-are_of_line keyword.Read = (tt, (tt, (tt, (tt, tt))))
-are_of_line keyword.Resize = (tt, (tt, (tt, tt)))
-are_of_line keyword.Drain = (tt, (tt, tt))
-are_of_line keyword.Phase = tt
-
 -- a value passes and is good, or it doesn't and is a bad number
-abbrev IsTold : Bool → spelled.Kind → Value → Type 0
+abbrev IsTold : Bool → Kind → Value → Type 0
 IsTold passed kind value = ((passed ≡ true) × (is_good kind value ≡ true)) ⊎ ((passed ≡ false) × (value ≡ BadNumber))
 
 number_told : (b within : Bool) (n : ℕ) (value : Value) → cond b (Some (cond within (Number n) BadNumber)) None ≡ Some value
-    → IsTold (is_some (cond b (Some (cond within (Number n) BadNumber)) None >>= number_of_value)) spelled.Label value
+    → IsTold (is_some (cond b (Some (cond within (Number n) BadNumber)) None >>= number_of_value)) Label value
 number_told true true n (Number k) is = inl (refl, refl)
 number_told true true n BadNumber is = cc
 number_told true true n (Bytes bytes) is = cc
@@ -180,50 +141,50 @@ number_told true false n BadNumber is = inr (refl, refl)
 number_told true false n (Bytes bytes) is = cc
 number_told false within n value is = cc
 
-payload_told : (chunk : Option Chunk) (value : Value) → option_map (λ c. Bytes c) chunk ≡ Some value → IsTold (is_some chunk) spelled.Hex value
+payload_told : (chunk : Option Chunk) (value : Value) → option_map (λ c. Bytes c) chunk ≡ Some value → IsTold (is_some chunk) Payload value
 payload_told None value is = cc
 payload_told (Some chunk) (Bytes bytes) is = inl (refl, refl)
 payload_told (Some chunk) (Number n) is = cc
 payload_told (Some chunk) BadNumber is = cc
 
-value_told : (workers : ℕ) (kind : Kind) (field : List ℕ) (value : Value) → IsOfLine kind → value_in workers (kind_of kind) field ≡ Some value → IsTold (good workers kind field) (kind_of kind) value
-value_told workers Payload field value of is = payload_told (chunk_in field) value is
-value_told workers Workers field value of is = absurd of
-value_told workers (Words version) field value of is = absurd of
-value_told workers Capacity field value of is = absurd of
-value_told workers kind field value of is = number_told _ _ _ value is
+value_told : (workers : ℕ) (kind : Kind) (field : List ℕ) (value : Value) → value_in workers kind field ≡ Some value → IsTold (good workers kind field) kind value
+value_told workers Payload field value is = payload_told (chunk_in field) value is
+value_told workers kind field value is = number_told _ _ _ value is
 
 -- the values are good, one for each kind
-abbrev are_good : List spelled.Kind → List Value → Bool
+abbrev are_good : List Kind → List Value → Bool
 are_good [] [] = true
 are_good (kind ∷ kinds) (value ∷ values) = cond (is_good kind value) (are_good kinds values) false
 are_good _ _ = false
 
-abbrev IsJudged : List spelled.Kind → List Value → ℕ → Type 0
-IsJudged kinds values i = IsFirstBad values i ⊎ (are_good kinds values ≡ true)
+-- the first bad value has this number, or all are good: by whether their fields pass
+abbrev IsJudged : List Kind → List Value → ℕ → (passed : Bool) → Type 0
+IsJudged kinds values i passed = (IsFirstBad values i × (passed ≡ false) × (are_good kinds values ≡ false)) ⊎ ((passed ≡ true) × (are_good kinds values ≡ true))
 
-not_good : (kind : spelled.Kind) → is_good kind BadNumber ≡ false
-not_good spelled.Worker = refl
+not_good : (kind : Kind) → is_good kind BadNumber ≡ false
+not_good Worker = refl
 not_good kind = refl
 
-good_is : (kind : spelled.Kind) (value : Value) → is_good kind value ≡ true → value ≡ BadNumber → ⊥
+good_is : (kind : Kind) (value : Value) → is_good kind value ≡ true → value ≡ BadNumber → ⊥
 good_is kind value is bad = let no = not_good kind in cc (ap (λ v. is_good kind v) bad)
 
 same_value : (a b : Value) → Some a ≡ Some b → a ≡ b
 same_value a b is = cc
 
-one_later : (kind : spelled.Kind) (value : Value) (values : List Value) (i : ℕ) → is_good kind value ≡ true → IsFirstBad values i
+one_later : (kind : Kind) (value : Value) (values : List Value) (i : ℕ) → is_good kind value ≡ true → IsFirstBad values i
     → (k : ℕ) → k < suc i → slice_get (value ∷ values) k ≢ Some BadNumber
 one_later kind value values i is bad zero lt same = good_is kind value is (same_value value BadNumber same)
 one_later kind value values i is bad (suc k) lt same = bad.before k (omega (arith, lt)) same
 
-step : (kind : spelled.Kind) (kinds : List spelled.Kind) (value : Value) (values : List Value) (i : ℕ) (passed : Bool) → IsTold passed kind value
-    → IsJudged kinds values i → IsJudged (kind ∷ kinds) (value ∷ values) (cond passed (suc i) 0)
-step kind kinds value values i true (inl is) (inl bad) = inl (record { here = bad.here; before = one_later kind value values i is.1 bad })
-step kind kinds value values i true (inl is) (inr goods) = inr (rw is.1 goods)
-step kind kinds value values i true (inr is) rest = let no = is.0 in cc
-step kind kinds value values i false (inl is) rest = let no = is.0 in cc
-step kind kinds value values i false (inr is) rest = inl (record { here = ap (λ (v : Value). Some v) is.1; before = λ k lt. absurd (omega (arith, lt)) })
+step : (kind : Kind) (kinds : List Kind) (value : Value) (values : List Value) (i : ℕ) (here passed : Bool) → IsTold here kind value
+    → IsJudged kinds values i passed → IsJudged (kind ∷ kinds) (value ∷ values) (cond here (suc i) 0) (cond here passed false)
+step kind kinds value values i true passed (inl is) (inl bad) = inl (record { here = bad.0.here; before = one_later kind value values i is.1 bad.0 }, bad.1, rw is.1 bad.2)
+step kind kinds value values i true passed (inl is) (inr goods) = inr (goods.0, rw is.1 goods.1)
+step kind kinds value values i true passed (inr is) rest = let no = is.0 in cc
+step kind kinds value values i false passed (inl is) rest = let no = is.0 in cc
+step kind kinds value values i false passed (inr is) rest =
+    let no : is_good kind value ≡ false = ap (λ v. is_good kind v) is.1 ∙ not_good kind in
+    inl (record { here = ap (λ (v : Value). Some v) is.1; before = λ k lt. absurd (omega (arith, lt)) }, refl, rw no refl)
 
 -- the values of the first field and of those after it
 parted : {P : Type 0} (first : Option Value) (rest : Option (List Value)) (values : List Value) → (first >>= λ v. (rest >>= λ vs. Some (v ∷ vs))) ≡ Some values
@@ -232,70 +193,36 @@ parted None rest values is then = cc
 parted (Some v) None values is then = cc
 parted (Some v) (Some vs) values is then = then v vs refl refl cc
 
-judged_from : (kinds : List spelled.Kind) (i : ℕ) (made values : List Value) → made ≡ values → IsJudged kinds made i → IsJudged kinds values i
-judged_from kinds i made values same is = subst (λ (vs : List Value). IsJudged kinds vs i) same is
+judged_from : (kinds : List Kind) (i : ℕ) (passed : Bool) (made values : List Value) → made ≡ values → IsJudged kinds made i passed → IsJudged kinds values i passed
+judged_from kinds i passed made values same is = subst (λ (vs : List Value). IsJudged kinds vs i passed) same is
 
-values_judged : (workers : ℕ) (kinds : List Kind) (fields : List (List ℕ)) (values : List Value) → AreOfLine kinds → values_in workers (map kind_of kinds) fields ≡ Some values
-    → IsJudged (map kind_of kinds) values (passing_count (λ k f. good workers k f) kinds fields)
-values_judged workers [] [] values of is = judged_from [] 0 [] values (let same = is in cc) (inr refl)
-values_judged workers [] (field ∷ fields) values of is = cc
-values_judged workers (kind ∷ kinds) [] values of is = cc
-values_judged workers (kind ∷ kinds) (field ∷ fields) values of is =
-    parted (value_in workers (kind_of kind) field) (values_in workers (map kind_of kinds) fields) values is
-    (λ v vs first rest same. judged_from (map kind_of (kind ∷ kinds)) (passing_count (λ k f. good workers k f) (kind ∷ kinds) (field ∷ fields)) (v ∷ vs) values same
-    (step (kind_of kind) (map kind_of kinds) v vs (passing_count (λ k f. good workers k f) kinds fields) (good workers kind field) (value_told workers kind field v of.0 first)
-    (values_judged workers kinds fields vs of.1 rest)))
+values_judged : (workers : ℕ) (kinds : List Kind) (fields : List (List ℕ)) (values : List Value) → values_in workers kinds fields ≡ Some values
+    → IsJudged kinds values (passing_count (λ k f. good workers k f) kinds fields) (all_pass (good workers) kinds fields)
+values_judged workers [] [] values is = judged_from [] 0 true [] values (let same = is in cc) (inr (refl, refl))
+values_judged workers [] (field ∷ fields) values is = cc
+values_judged workers (kind ∷ kinds) [] values is = cc
+values_judged workers (kind ∷ kinds) (field ∷ fields) values is =
+    parted (value_in workers kind field) (values_in workers kinds fields) values is
+    (λ v vs first rest same. judged_from (kind ∷ kinds) (passing_count (λ k f. good workers k f) (kind ∷ kinds) (field ∷ fields))
+    (all_pass (good workers) (kind ∷ kinds) (field ∷ fields)) (v ∷ vs) values same
+    (step kind kinds v vs (passing_count (λ k f. good workers k f) kinds fields) (good workers kind field) (all_pass (good workers) kinds fields)
+    (value_told workers kind field v first) (values_judged workers kinds fields vs rest)))
 
--- where all values are good, they make a line
-good_line : (w : Keyword) (values : List Value) → are_good (kinds_of w) values ≡ true → line_from w values ≡ None → ⊥
+-- values make a line exactly where all are good
+made : (w : Keyword) (values : List Value) → is_some (line_from w values) ≡ are_good (kinds_of w) values
 unfolding line_from
-good_line keyword.Allocate (Number a ∷ Number b ∷ Number c ∷ []) is none = cc
-good_line keyword.Release (Number a ∷ Number b ∷ []) is none = cc
-good_line keyword.Write (Number a ∷ Number b ∷ Number c ∷ Bytes d ∷ []) is none = cc
-good_line keyword.Read (Number a ∷ Number b ∷ Number c ∷ Number d ∷ []) is none = cc
-good_line keyword.Resize (Number a ∷ Number b ∷ Number c ∷ []) is none = cc
-good_line keyword.Drain (Number a ∷ Number b ∷ []) is none = cc
-good_line keyword.Phase [] is none = cc
-good_line w values is none = cc
-
--- and where one isn't, none
-bad_line : (w : Keyword) (values : List Value) → are_good (kinds_of w) values ≡ false → line_from w values ≡ None
-unfolding line_from
-bad_line keyword.Allocate (Number a ∷ Number b ∷ Number c ∷ []) is = cc
-bad_line keyword.Release (Number a ∷ Number b ∷ []) is = cc
-bad_line keyword.Write (Number a ∷ Number b ∷ Number c ∷ Bytes d ∷ []) is = cc
-bad_line keyword.Read (Number a ∷ Number b ∷ Number c ∷ Number d ∷ []) is = cc
-bad_line keyword.Resize (Number a ∷ Number b ∷ Number c ∷ []) is = cc
-bad_line keyword.Drain (Number a ∷ Number b ∷ []) is = cc
-bad_line keyword.Phase [] is = cc
-bad_line w values is = refl
-
--- the values are good where the fields pass
-good_step : (kind : spelled.Kind) (passed : Bool) (value : Value) (goods passes : Bool) → IsTold passed kind value → goods ≡ passes → cond (is_good kind value) goods false ≡ cond passed passes false
-good_step kind passed value goods passes (inl is) same = rw (is.0, is.1) same
-good_step kind passed value goods passes (inr is) same =
-    let no : is_good kind value ≡ false = ap (λ v. is_good kind v) is.1 ∙ not_good kind in
-    rw (is.0, no) refl
-
-good_told : (workers : ℕ) (kinds : List Kind) (fields : List (List ℕ)) (values : List Value) → AreOfLine kinds → values_in workers (map kind_of kinds) fields ≡ Some values
-    → are_good (map kind_of kinds) values ≡ all_pass (good workers) kinds fields
-good_told workers [] [] [] of is = refl
-good_told workers [] [] (value ∷ values) of is = cc
-good_told workers [] (field ∷ fields) values of is = cc
-good_told workers (kind ∷ kinds) [] values of is = cc
-good_told workers (kind ∷ kinds) (field ∷ fields) values of is =
-    parted (value_in workers (kind_of kind) field) (values_in workers (map kind_of kinds) fields) values is
-    (λ v vs first rest same. subst (λ (made : List Value). are_good (map kind_of (kind ∷ kinds)) made ≡ all_pass (good workers) (kind ∷ kinds) (field ∷ fields)) same
-    (good_step (kind_of kind) (good workers kind field) v (are_good (map kind_of kinds) vs) (all_pass (good workers) kinds fields) (value_told workers kind field v of.0 first)
-    (good_told workers kinds fields vs of.1 rest)))
-
-some_line : (said : Option Line) → (said ≡ None → ⊥) → is_some said ≡ true
-some_line None none = absurd (none refl)
-some_line (Some line) none = refl
+made keyword.Allocate (Number a ∷ Number b ∷ Number c ∷ []) = refl
+made keyword.Release (Number a ∷ Number b ∷ []) = refl
+made keyword.Write (Number a ∷ Number b ∷ Number c ∷ Bytes d ∷ []) = refl
+made keyword.Read (Number a ∷ Number b ∷ Number c ∷ Number d ∷ []) = refl
+made keyword.Resize (Number a ∷ Number b ∷ Number c ∷ []) = refl
+made keyword.Drain (Number a ∷ Number b ∷ []) = refl
+made keyword.Phase [] = refl
+made w values = refl
 
 -- ---- a line that has its shape
 
-module _ (workers : ℕ) (first : List ℕ) (fields : List (List ℕ)) (w : Keyword) (is : keyword_of keywords first ≡ Some w) (shaped : all_pass shape (kinds_behind w) fields ≡ true) where
+module _ (workers : ℕ) (first : List ℕ) (fields : List (List ℕ)) (w : Keyword) (is : keyword_of keywords first ≡ Some w) (shaped : all_pass shape (kinds_of w) fields ≡ true) where
   has_shape : is_shaped workers (first ∷ fields) ≡ true
   has_shape = shaped_line workers first w fields is ∙ shaped
 
@@ -306,44 +233,37 @@ module _ (workers : ℕ) (first : List ℕ) (fields : List (List ℕ)) (w : Keyw
   shown (Some values) say = (values, say)
 
   module _ (values : List Value) (say : values_in workers (kinds_of w) fields ≡ Some values) where
-    by_kinds : values_in workers (map kind_of (kinds_behind w)) fields ≡ Some values
-    by_kinds = rw (kinds_told w) say
-
     line_told : is_line workers (first ∷ fields) ≡ is_some (line_from w values)
     line_told = rw (is, say) refl
 
-    goods : are_good (kinds_of w) values ≡ all_pass (good workers) (kinds_behind w) fields
-    goods = rw (kinds_told w) at (good_told workers (kinds_behind w) fields values (are_of_line w) by_kinds)
+    judged : IsJudged (kinds_of w) values (passing_count (λ k f. good workers k f) (kinds_of w) fields) (all_pass (good workers) (kinds_of w) fields)
+    judged = values_judged workers (kinds_of w) fields values say
 
     -- where not all numbers pass, one is bad
-    first_bad : all_pass (good workers) (kinds_behind w) fields ≡ false → IsFirstBad values (passing_count (λ k f. good workers k f) (kinds_behind w) fields)
-    first_bad fails = elim (values_judged workers (kinds_behind w) fields values (are_of_line w) by_kinds) [
-      | inl bad ↦ bad
-      | inr all ↦ absurd (let all_good : are_good (kinds_of w) values ≡ true = rw (kinds_told w) at all in let same = goods in cc)
+    bad_here : (m : ℕ) → IsFirstFailing (good workers) (kinds_of w) fields (Some m) → FindsWrong (is_line workers) (IsFirstWrong workers) (first ∷ fields) (Some (m + 2))
+    bad_here m fails = elim judged [
+      | inl bad ↦
+          let behind : passing_count (λ k f. good workers k f) (kinds_of w) fields ≡ m + 2 - 2 = omega (arith, fails.1) in
+          let found : HasFirstBadNumberAt workers (first ∷ fields) (m + 2) = record {
+            keyword = w;
+            values = values;
+            keyword_is = is;
+            say = say;
+            first = subst (λ (i : ℕ). IsFirstBad values i) behind bad.0;
+          } in (
+            line_told ∙ (made w values ∙ bad.2),
+            if_true (is_shaped workers (first ∷ fields)) (HasFirstBadNumberAt workers (first ∷ fields) (m + 2)) (GoAstrayAt (is_shaped workers) (first ∷ fields) (m + 2)) has_shape found,
+          )
+      | inr all ↦ absurd (let no = fails.0 in let yes = all.0 in cc)
     ]
 
-    bad_here : (m : ℕ) → IsFirstFailing (good workers) (kinds_behind w) fields (Some m) → FindsWrong (is_line workers) (IsFirstWrong workers) (first ∷ fields) (Some (m + 2))
-    bad_here m fails =
-        let behind : passing_count (λ k f. good workers k f) (kinds_behind w) fields ≡ m + 2 - 2 = omega (arith, fails.1) in
-        let none : line_from w values ≡ None = bad_line w values (goods ∙ fails.0) in
-        let found : HasFirstBadNumberAt workers (first ∷ fields) (m + 2) = record {
-          keyword = w;
-          values = values;
-          keyword_is = is;
-          say = say;
-          first = subst (λ (i : ℕ). IsFirstBad values i) behind (first_bad fails.0);
-        } in (
-          line_told ∙ ap (λ (said : Option Line). is_some said) none,
-          if_true (is_shaped workers (first ∷ fields)) (HasFirstBadNumberAt workers (first ∷ fields) (m + 2)) (GoAstrayAt (is_shaped workers) (first ∷ fields) (m + 2)) has_shape found,
-        )
+    all_good : all_pass (good workers) (kinds_of w) fields ≡ true → is_line workers (first ∷ fields) ≡ true
+    all_good all = elim judged [ inl bad ↦ absurd (let no = bad.1 in cc) | inr goods ↦ line_told ∙ (made w values ∙ goods.1) ]
 
-    all_good : all_pass (good workers) (kinds_behind w) fields ≡ true → is_line workers (first ∷ fields) ≡ true
-    all_good all = line_told ∙ some_line (line_from w values) (good_line w values (goods ∙ all))
-
-  pub bad_number : (m : ℕ) → IsFirstFailing (good workers) (kinds_behind w) fields (Some m) → FindsWrong (is_line workers) (IsFirstWrong workers) (first ∷ fields) (Some (m + 2))
+  pub bad_number : (m : ℕ) → IsFirstFailing (good workers) (kinds_of w) fields (Some m) → FindsWrong (is_line workers) (IsFirstWrong workers) (first ∷ fields) (Some (m + 2))
   bad_number m fails = let say = shown (values_in workers (kinds_of w) fields) refl in bad_here say.0 say.1 m fails
 
-  pub no_wrong : all_pass (good workers) (kinds_behind w) fields ≡ true → FindsWrong (is_line workers) (IsFirstWrong workers) (first ∷ fields) None
+  pub no_wrong : all_pass (good workers) (kinds_of w) fields ≡ true → FindsWrong (is_line workers) (IsFirstWrong workers) (first ∷ fields) None
   no_wrong all = let say = shown (values_in workers (kinds_of w) fields) refl in all_good say.0 say.1 all
 
 -- ---- the field of a line as it stands

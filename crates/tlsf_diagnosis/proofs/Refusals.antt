@@ -20,20 +20,16 @@ not_ordered line false why is = cc
 module _ (before : List Line) where
   by_line : (said : Option Line) (why : LineFault) → (some_or said fault.BadNumber >>= λ line. (unless (is_in_order before line) fault.LabelOrder >>= λ _. Ok line)) ≡ Err why
       → Tells true (is_some said) why
-  by_line None fault.BadHeader refused = cc
-  by_line None fault.BadLine refused = cc
   by_line None fault.BadNumber refused = (refl, refl)
-  by_line None fault.LabelOrder refused = cc
+  by_line None why refused = cc
   by_line (Some line) why refused =
       subst (λ (w : LineFault). Tells true true w) (sym (not_ordered line (is_in_order before line) why refused)) refl
 
   by_values : (w : Keyword) (values : Option (List Value)) (why : LineFault) → (some_or values fault.BadLine >>= λ vs. (some_or (line_from w vs) fault.BadNumber
       >>= λ line. (unless (is_in_order before line) fault.LabelOrder >>= λ _. Ok line))) ≡ Err why
       → Tells (is_some values) (is_some (option_and_then (λ vs. line_from w vs) values)) why
-  by_values w None fault.BadHeader refused = cc
   by_values w None fault.BadLine refused = refl
-  by_values w None fault.BadNumber refused = cc
-  by_values w None fault.LabelOrder refused = cc
+  by_values w None why refused = cc
   by_values w (Some vs) why refused = by_line (line_from w vs) why refused
 
   by_keyword : (workers : ℕ) (fields : List (List ℕ)) (w : Option Keyword) (why : LineFault)
@@ -41,10 +37,8 @@ module _ (before : List Line) where
       >>= λ vs. (some_or (line_from v vs) fault.BadNumber >>= λ line. (unless (is_in_order before line) fault.LabelOrder >>= λ _. Ok line)))) ≡ Err why
       → Tells (is_some (option_and_then (λ v. values_in workers (kinds_of v) (drop 1 fields)) w))
       (is_some (option_and_then (λ v. option_and_then (λ vs. line_from v vs) (values_in workers (kinds_of v) (drop 1 fields))) w)) why
-  by_keyword workers fields None fault.BadHeader refused = cc
   by_keyword workers fields None fault.BadLine refused = refl
-  by_keyword workers fields None fault.BadNumber refused = cc
-  by_keyword workers fields None fault.LabelOrder refused = cc
+  by_keyword workers fields None why refused = cc
   by_keyword workers fields (Some w) why refused = by_values w (values_in workers (kinds_of w) (drop 1 fields)) why refused
 
   pub told : (workers : ℕ) (piece : List ℕ) (fields : List (List ℕ)) (why : LineFault) → fields_in piece ≡ Some fields → judged_line workers before piece ≡ Err why

@@ -3,13 +3,12 @@ use Rattle.std.specs.Prelude.{ℕ, ◌-◌, ◌&&◌, ◌||◌, Bool, false, not
 use Rattle.std.specs.List.{list_all}
 use Rattle.std.specs.Str.{bytes_eq}
 use Rattle.tlsf_lines.specs.CutFields.{fields_of}
-use Rattle.tlsf_lines.specs.Fields.{field, is_digits}
-use Rattle.tlsf_lines.specs.Lines.{keyword_of, keywords}
+use Rattle.tlsf_lines.specs.Fields.{field, is_digits, is_number}
+use Rattle.tlsf_lines.specs.Lines.{keyword_of, keywords, kinds_of}
 use Rattle.tlsf_lines.specs.Pieces.{pieces_of}
 use Rattle.tlsf_lines.specs.declared.keyword.Keyword.{Keyword}
-use Rattle.tlsf_diagnosis.specs.Kinds.{is_number, kinds_behind}
+use Rattle.tlsf_lines.specs.declared.kind.Kind.{Kind}
 use Rattle.tlsf_diagnosis.specs.Shown.{is_printable, without_feed}
-use Rattle.tlsf_diagnosis.specs.declared.kind.Kind.{Kind}
 use Rattle.tlsf_diagnosis.specs.declared.findings.Wanted.{Wanted}
 use Rattle.tlsf_diagnosis.specs.declared.findings.Wanted.TheVariants.{Value}
 
@@ -17,7 +16,7 @@ use Rattle.tlsf_diagnosis.specs.declared.findings.Wanted.TheVariants.{Value}
 
 -- the kinds of the fields after a keyword, and none where there is no keyword
 abbrev pub kinds_after : Option Keyword → List Kind
-kinds_after (Some keyword) = kinds_behind keyword
+kinds_after (Some keyword) = kinds_of keyword
 kinds_after None = []
 
 -- whether there is a kind, and it is that of a number

@@ -19,15 +19,7 @@ fn number_of(version: Version) -> u32
 fn is_phase(line: &Line) -> bool
     ensures { result ≡ told.is_phase line.now }
 {
-    match line {
-        Line::Phase => true,
-        Line::Allocate { .. }
-        | Line::Release { .. }
-        | Line::Write { .. }
-        | Line::Read { .. }
-        | Line::Resize { .. }
-        | Line::Drain { .. } => false,
-    }
+    matches!(line, Line::Phase)
 }
 
 fn count_phase_lines(trace: &Trace) -> usize

@@ -1,8 +1,8 @@
 //! A trace that is checked.
-ghost use Rattle.std.specs.Prelude.{◌≡◌, ◌⊎◌, IfErr, IfSome, OnErr, OnOk, Some, string_bytes};
+ghost use Rattle.std.specs.Prelude.{◌≡◌, IfErr, IfSome, OnErr, OnOk, Some, string_bytes};
 ghost use Rattle.tlsf_diagnosis.specs.Notes.{Describes, Notes, NotesField};
 ghost use Rattle.tlsf_diagnosis.specs.PassedLimits.{NotesUnread};
-ghost use Rattle.tlsf_lines.specs.TraceFaults.{IsLineFault, fault_of, no_memory_fault};
+ghost use Rattle.tlsf_lines.specs.TraceFaults.{IsTextFault, fault_of};
 ghost use Rattle.tlsf_trace.specs.Replay.{IsRun};
 
 use crate::count_line::line_on;
@@ -46,13 +46,14 @@ fn note_fault(
 }
 
 // Does so where a line of the text is at fault.
+#[tactic(auto, using(crate::proofs::NoteSteps::of_text, crate::proofs::NoteSteps::nothing))]
 fn note_line(
     alloc: Global,
     text: &[u8],
     fault: TraceFault,
     note: &mut String,
 ) -> Result<(), AllocError>
-    requires { (fault ≡ no_memory_fault) ⊎ (IsLineFault fault × (fault_of text.now ≡ Some fault)) }
+    requires { IsTextFault text.now fault }
     ensures ok { OnOk result (Notes text.now fault (string_bytes note.old) (string_bytes note.new)) }
     ensures err { OnErr result (string_bytes note.new ≡ string_bytes note.old) }
 {

@@ -15,8 +15,9 @@ ghost use Rattle.tlsf_lines.specs.declared.line_fault.LineFault.{LineFault};
 ghost use Rattle.tlsf_lines.specs.declared.line_fault.LineFault.TheVariants.{BadHeader};
 
 use crate::judge::{Judge, passes};
-use crate::kind::{Kind, kinds_behind};
-use tlsf_lines::{TraceFault, Version, cut_feed, cut_field, cut_piece, header_in, keyword_of};
+use tlsf_lines::{
+    Kind, TraceFault, Version, cut_feed, cut_field, cut_piece, header_in, keyword_of, kinds_behind,
+};
 
 /// The field that has the label, in each line that has one.
 const LABEL_FIELD: usize = 3;

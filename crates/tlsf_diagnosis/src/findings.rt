@@ -6,12 +6,11 @@ ghost use Rattle.tlsf_diagnosis.specs.Tips;
 ghost use Rattle.tlsf_lines.specs.CutFields.{fields_of};
 
 use crate::judge::{Judge, is_all_digits, passes};
-use crate::kind::{Kind, kinds_behind};
 use crate::line_view::push_bytes;
 use crate::number_tip::is_marked_number;
 use crate::spot::{Spot, field_in};
 use std::alloc::AllocError;
-use tlsf_lines::{Version, keyword_of};
+use tlsf_lines::{Kind, Version, keyword_of, kinds_behind};
 
 /// How many bytes of a field are quoted.
 const MOST_QUOTED: usize = 24;
@@ -193,6 +192,22 @@ fn has_range(kind: Kind, workers: u32) -> bool {
     least < most
 }
 
+// A field of this kind in words, as `the length in bytes`.
+fn name_of(kind: Kind) -> &'static str {
+    match kind {
+        Kind::Worker => "the worker",
+        Kind::Label => "the label",
+        Kind::Length => "the length in bytes",
+        Kind::Offset => "the offset in bytes",
+        Kind::Payload => "the bytes to write",
+        Kind::Count => "the number of bytes to read",
+        Kind::Most => "the most posts to drain",
+        Kind::Workers => "the number of workers",
+        Kind::Words(_) => "the words of a heap",
+        Kind::Capacity => "the posts that a lane holds",
+    }
+}
+
 /// Adds what the field is, and what was expected there.
 pub fn push_wanted(text: &mut String, wanted: Wanted, workers: u32) -> Result<(), AllocError> {
     match wanted {
@@ -208,7 +223,7 @@ pub fn push_wanted(text: &mut String, wanted: Wanted, workers: u32) -> Result<()
             text.push_str(", the worker: 0, the only worker")
         }
         Wanted::Value(kind) => {
-            let name = kind.name();
+            let name = name_of(kind);
             let (least, most) = kind.range(workers);
             write!(
                 text,

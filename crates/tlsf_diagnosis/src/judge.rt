@@ -4,8 +4,7 @@ ghost use Rattle.tlsf_diagnosis.specs.Kinds;
 ghost use Rattle.tlsf_lines.specs.Fields.{is_digits};
 ghost use Rattle.tlsf_lines.specs.Header.{number_in};
 
-use crate::kind::Kind;
-use tlsf_lines::{chunk_in, digits_in};
+use tlsf_lines::{Kind, chunk_in, digits_in};
 
 /// How strictly a field is judged.
 #[derive(Clone, Copy)]

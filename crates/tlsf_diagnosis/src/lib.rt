@@ -19,7 +19,6 @@ mod diagnosing;
 mod field_spots;
 mod findings;
 mod judge;
-mod kind;
 mod labels;
 mod limit;
 mod line_view;

@@ -12,6 +12,7 @@ const COLUMNS_BEFORE: usize = 40;
 const COLUMNS_BEHIND: usize = 32;
 
 /// How many columns a byte is shown in.
+#[tactic(auto, using(std::proofs::lemmas::Fmt::hex_byte))]
 fn columns_of(byte: u8) -> usize
     ensures { result ≡ length (shown_byte byte) }
 {

@@ -20,6 +20,7 @@ pub struct Spot<'a> {
 }
 
 // A line as it stands without its line feed, and whether it has one.
+#[tactic(auto, using(crate::proofs::FieldSteps::fed, crate::proofs::FieldSteps::bare))]
 fn line_in(piece: &[u8]) -> (&[u8], bool)
     ensures line { result.0.now ≡ without_feed piece.now }
     ensures ended { result.1 ≡ is_some (fields_in piece.now) }

@@ -17,7 +17,7 @@ pub use Rattle.tlsf_calls.specs.declared.event.Event.{Event}
 pub use Rattle.tlsf_heap.specs.declared.name.Name.{Name}
 pub use Rattle.tlsf_lines.specs.ByLabel.{kept_of, IsSet}
 pub use Rattle.tlsf_lines.specs.CallMemory.{RecallsCallOf, RecallsCall, with_line}
-pub use Rattle.tlsf_lines.specs.CutFields.{value_of, fields_left, fields_of, first_by, only_by, SayFirst, SayNothing, line_behind, with_rest}
+pub use Rattle.tlsf_lines.specs.CutFields.{value_of, fields_left, fields_of, first_by, only_by, line_behind, with_rest}
 pub use Rattle.tlsf_lines.specs.Events.{width_in, events_in, last_drain, last_drains, width_of, ends_from, events_from, events_of, labels_from, labels_in, labels_of, made_by}
 pub use Rattle.tlsf_lines.specs.Fields.{values_in, digits_in, value_in, field, fields_in, number_within}
 unfoldable pub use Rattle.tlsf_lines.specs.Header.{header_in, header_from}
@@ -29,8 +29,8 @@ pub use Rattle.tlsf_lines.specs.Phases.{known_in, own_lines, calls_from, known_b
 pub use Rattle.tlsf_lines.specs.Pieces.{pieces_of, AreCut, ArePieces, IsRest, IsWhole}
 pub use Rattle.tlsf_lines.specs.Trace.{Trace, ◌>>=◌, at_line, some_or, unless}
 unfoldable pub use Rattle.tlsf_lines.specs.Trace.{judged_line, lines_in, trace_of}
-pub use Rattle.tlsf_lines.specs.TraceFaults.{IsLineFault, fault_by, fault_of, fault_of_parse, fault_of_read, no_memory_fault, too_long_fault}
-pub use Rattle.tlsf_lines.specs.Values.{Label, Value, Worker, Bytes, Offset, Kind, Count, Hex, Length}
+pub use Rattle.tlsf_lines.specs.TraceFaults.{IsTextFault, fault_by, fault_of_parse, fault_of_read, no_memory_fault, too_long_fault}
+pub use Rattle.tlsf_lines.specs.Values.{Value, Bytes}
 pub use Rattle.tlsf_lines.specs.declared.header.Header.{Header}
 pub use Rattle.tlsf_lines.specs.declared.line.Line.{Line}
 pub use Rattle.tlsf_lines.specs.declared.line.Line.TheVariants.{Allocate, Phase, Drain, Read, Release, Resize, Write}

@@ -2,7 +2,6 @@
 mod Common
 pub mod CutSteps  -- fields that are cut off a line, one after another
 pub mod DigitSteps  -- the digits that a line of fields begins with
-pub mod FieldSteps  -- what the fields of a line say, up to one that has not its shape
 pub mod LastField  -- the last field of a line, which may be read as all that is left
 pub mod LineJudged  -- a line, judged by its first field and what stands behind it
 pub mod LineSteps  -- a step of the loop over lines

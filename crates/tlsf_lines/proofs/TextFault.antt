@@ -1,9 +1,8 @@
 -- The fault that a text has instead of a trace.
-use Rattle.tlsf_lines.proofs.Common.{◌≡◌, ◌⊎◌, inl, inr, ℕ, ◌≤◌, List, Some, Err, refl, ap, arith, IsLineFault, fault_by, fault_of, trace_of, fault_of_parse, no_memory_fault, LineFault}
+use Rattle.tlsf_lines.proofs.Common.{◌≡◌, inl, inr, ℕ, ◌≤◌, List, Err, refl, ap, arith, IsTextFault, fault_by, trace_of, fault_of_parse, LineFault}
 use Rattle.tlsf_lines.specs.Views.{FailsAt}
 use Rattle.tlsf_lines.specs.declared.parse_error.ParseError.{ParseError}
 use Rattle.tlsf_lines.specs.declared.parse_error.ParseError.TheVariants as parsing
-use Rattle.tlsf_lines.specs.declared.trace_fault.TraceFault.{TraceFault}
 use Rattle.tlsf_lines.proofs.FirstFault.{is_first}
 
 -- a fault of a line comes from line 1 on
@@ -12,10 +11,6 @@ line_of_fault text fault line h = elim (is_first text fault line h) [
   | inl header ↦ omega (arith, header.line_is)
   | inr behind ↦ omega (arith, behind.line_is)
 ]
-
--- what is known of a fault that a text came to
-abbrev pub IsTextFault : List ℕ → TraceFault → Type 0
-IsTextFault text fault = (fault ≡ no_memory_fault) ⊎ (IsLineFault fault × (fault_of text ≡ Some fault))
 
 pub text_fault : (error : ParseError) (text : List ℕ) → FailsAt error (trace_of text) → IsTextFault text (fault_of_parse error)
 text_fault parsing.NoMemory text h = inl refl

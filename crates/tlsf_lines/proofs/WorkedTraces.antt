@@ -1,9 +1,10 @@
 -- Worked traces, judged by the definitions. Other good and faulty traces are in tests/program/faults.toml.
-use Rattle.tlsf_lines.proofs.Common.{◌≡◌, ℕ, List, [], ◌∷◌, ◌++◌, Result, Some, None, Ok, Err, refl, codes, Header, events_of, labels_of, Allocate, Drain, Phase, Read, Release, Resize, Write, LineFault, BadLine, LabelOrder, line_from, header_from, header_in, Trace, trace_of, lines_in, judged_line}
+use Rattle.tlsf_lines.proofs.Common.{◌≡◌, ℕ, List, [], ◌∷◌, ◌++◌, Result, Some, None, Ok, Err, refl, codes, AllByRecursion, events_of, labels_of, Allocate, Drain, Phase, Read, Release, Resize, Write, Line, LineFault, BadLine, LabelOrder, line_from, header_from, header_in, Trace, trace_of, lines_in, judged_line}
 use Rattle.hex.proofs.OnLiterals.{hex_on_literals}
 use Rattle.tlsf_calls.specs.Bytes.{chunk_of}
 use Rattle.tlsf_calls.specs.declared.call.Call.TheVariants as call
 use Rattle.tlsf_calls.specs.declared.target.Target.TheVariants.{Made}
+use Rattle.tlsf_lines.specs.declared.version.Version.{Version}
 use Rattle.tlsf_lines.specs.declared.version.Version.TheVariants.{One, Two}
 
 -- these lines, each with its line feed
@@ -11,74 +12,44 @@ abbrev pub text : List (List ℕ) → List ℕ
 text [] = []
 text (line ∷ lines) = line ++ 10 ∷ text lines
 
--- what a text with this first line spells
-abbrev first_line : List ℕ → Result Trace (LineFault × ℕ)
-first_line line = trace_of (text (line ∷ []))
+-- a trace of these numbers and lines
+abbrev told : Version → (workers words capacity : ℕ) → List Line → Result Trace (LineFault × ℕ)
+told version workers words capacity lines = Ok (record { header = record { version = version; workers = workers; words = words; capacity = capacity }; lines = lines })
 
--- one worker, 64 words and one post a lane
-abbrev heap_of_64 : Header
-heap_of_64 = record { version = One; workers = 1; words = 64; capacity = 1 }
+-- texts, with what they spell
+abbrev rows : List (List (List ℕ) × Result Trace (LineFault × ℕ))
+rows =
+    -- digits of either case spell the bytes of a write
+    (codes "tlsf 1 1 64 1" ∷ codes "a 0 1 11" ∷ codes "p 0 1 6 68656c6C6f" ∷ [], told One 1 64 1 (Allocate 0 1 11 ∷ Write 0 1 6 (chunk_of (codes "hello")) ∷ []))
+    -- a read
+    ∷ (codes "tlsf 1 1 64 1" ∷ codes "a 0 1 11" ∷ codes "g 0 1 4 64" ∷ [], told One 1 64 1 (Allocate 0 1 11 ∷ Read 0 1 4 64 ∷ []))
+    -- another worker may ask to resize it after a phase
+    ∷ (codes "tlsf 1 2 64 4" ∷ codes "a 0 1 8" ∷ codes "phase" ∷ codes "r 1 1 100" ∷ [], told One 2 64 4 (Allocate 0 1 8 ∷ Phase ∷ Resize 1 1 100 ∷ []))
+    -- a drain, and the end of a phase
+    ∷ (codes "tlsf 1 2 64 4" ∷ codes "d 1 8192" ∷ codes "phase" ∷ [], told One 2 64 4 (Drain 1 8192 ∷ Phase ∷ []))
+    -- its maker uses it at any time
+    ∷ (
+      codes "tlsf 1 2 64 4" ∷ codes "a 1 1 8" ∷ codes "g 1 1 0 1" ∷ codes "phase" ∷ codes "f 1 1" ∷ [],
+      told One 2 64 4 (Allocate 1 1 8 ∷ Read 1 1 0 1 ∷ Phase ∷ Release 1 1 ∷ []),
+    )
+    -- each number at its greatest
+    ∷ (
+      codes "tlsf 1 8 1048576 1024" ∷ codes "a 7 65535 4294967295" ∷ codes "g 7 65535 4294967295 64" ∷ [],
+      told One 8 1048576 1024 (Allocate 7 65535 4294967295 ∷ Read 7 65535 4294967295 64 ∷ []),
+    )
+    -- each number at its least
+    ∷ (codes "tlsf 1 1 4 1" ∷ codes "a 0 0 0" ∷ codes "g 0 0 0 1" ∷ codes "d 0 1" ∷ [], told One 1 4 1 (Allocate 0 0 0 ∷ Read 0 0 0 1 ∷ Drain 0 1 ∷ []))
+    -- version 2, with a heap as large as version 1 has none
+    ∷ (codes "tlsf 2 8 16777216 1024" ∷ [], told Two 8 16777216 1024 [])
+    -- the shape is judged before the ranges
+    ∷ (codes "tlsf 1 2 64 4" ∷ codes "a 9 1 x" ∷ [], Err (BadLine, 2))
+    -- another worker uses a label in the phase of its making
+    ∷ (codes "tlsf 1 2 64 4" ∷ codes "a 0 1 8" ∷ codes "f 1 1" ∷ [], Err (LabelOrder, 3))
+    ∷ []
 
--- two workers, 64 words each and four posts a lane
-abbrev two_of_64 : Header
-two_of_64 = record { version = One; workers = 2; words = 64; capacity = 4 }
-
--- digits of either case spell the bytes of a write
-write : trace_of (text (codes "tlsf 1 1 64 1" ∷ codes "a 0 1 11" ∷ codes "p 0 1 6 68656c6C6f" ∷ [])) ≡
-    Ok (record { header = heap_of_64; lines = Allocate 0 1 11 ∷ Write 0 1 6 (chunk_of (codes "hello")) ∷ [] })
+each_spells : AllByRecursion (λ row. trace_of (text row.0) ≡ row.1) rows
 unfolding trace_of lines_in judged_line line_from header_in header_from hex_on_literals
-write = refl
-
--- a read
-read : trace_of (text (codes "tlsf 1 1 64 1" ∷ codes "a 0 1 11" ∷ codes "g 0 1 4 64" ∷ [])) ≡
-    Ok (record { header = heap_of_64; lines = Allocate 0 1 11 ∷ Read 0 1 4 64 ∷ [] })
-unfolding trace_of lines_in judged_line line_from header_in header_from
-read = refl
-
--- another worker may ask to resize it after a phase
-resized_after_phase : trace_of (text (codes "tlsf 1 2 64 4" ∷ codes "a 0 1 8" ∷ codes "phase" ∷ codes "r 1 1 100" ∷ [])) ≡
-    Ok (record { header = two_of_64; lines = Allocate 0 1 8 ∷ Phase ∷ Resize 1 1 100 ∷ [] })
-unfolding trace_of lines_in judged_line line_from header_in header_from
-resized_after_phase = refl
-
--- a drain, and the end of a phase
-drain : trace_of (text (codes "tlsf 1 2 64 4" ∷ codes "d 1 8192" ∷ codes "phase" ∷ [])) ≡
-    Ok (record { header = two_of_64; lines = Drain 1 8192 ∷ Phase ∷ [] })
-unfolding trace_of lines_in judged_line line_from header_in header_from
-drain = refl
-
--- its maker uses it at any time
-used_by_its_maker : trace_of (text (codes "tlsf 1 2 64 4" ∷ codes "a 1 1 8" ∷ codes "g 1 1 0 1" ∷ codes "phase" ∷ codes "f 1 1" ∷ [])) ≡
-    Ok (record { header = two_of_64; lines = Allocate 1 1 8 ∷ Read 1 1 0 1 ∷ Phase ∷ Release 1 1 ∷ [] })
-unfolding trace_of lines_in judged_line line_from header_in header_from
-used_by_its_maker = refl
-
--- each number at its greatest
-greatest_numbers : trace_of (text (codes "tlsf 1 8 1048576 1024" ∷ codes "a 7 65535 4294967295" ∷ codes "g 7 65535 4294967295 64" ∷ [])) ≡
-    Ok (record { header = record { version = One; workers = 8; words = 1048576; capacity = 1024 }; lines = Allocate 7 65535 4294967295 ∷ Read 7 65535 4294967295 64 ∷ [] })
-unfolding trace_of lines_in judged_line line_from header_in header_from
-greatest_numbers = refl
-
--- each number at its least
-least_numbers : trace_of (text (codes "tlsf 1 1 4 1" ∷ codes "a 0 0 0" ∷ codes "g 0 0 0 1" ∷ codes "d 0 1" ∷ [])) ≡
-    Ok (record { header = record { version = One; workers = 1; words = 4; capacity = 1 }; lines = Allocate 0 0 0 ∷ Read 0 0 0 1 ∷ Drain 0 1 ∷ [] })
-unfolding trace_of lines_in judged_line line_from header_in header_from
-least_numbers = refl
-
--- version 2, with a heap as large as version 1 has none
-version_2 : first_line (codes "tlsf 2 8 16777216 1024") ≡ Ok (record { header = record { version = Two; workers = 8; words = 16777216; capacity = 1024 }; lines = [] })
-unfolding trace_of lines_in judged_line line_from header_in header_from
-version_2 = refl
-
--- the shape is judged before the ranges
-shape_before_range : trace_of (text (codes "tlsf 1 2 64 4" ∷ codes "a 9 1 x" ∷ [])) ≡ Err (BadLine, 2)
-unfolding trace_of lines_in judged_line line_from header_in header_from
-shape_before_range = refl
-
--- another worker uses a label in the phase of its making
-used_in_its_phase : trace_of (text (codes "tlsf 1 2 64 4" ∷ codes "a 0 1 8" ∷ codes "f 1 1" ∷ [])) ≡ Err (LabelOrder, 3)
-unfolding trace_of lines_in judged_line line_from header_in header_from
-used_in_its_phase = refl
+each_spells = (refl, (refl, (refl, (refl, (refl, (refl, (refl, (refl, (refl, (refl, tt))))))))))
 
 -- two workers, and a label on either side of a phase's end
 two_phases : Trace

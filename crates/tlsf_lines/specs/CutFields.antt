@@ -1,12 +1,13 @@
 -- The fields of a line as they are cut off, one after another.
-use Rattle.std.specs.Prelude.{ℕ, ◌≡◌, ◌==◌, List, [], ◌∷◌, ◌++◌, Option, Some, None, option_map}
+use Rattle.std.specs.Prelude.{ℕ, ◌==◌, List, [], ◌∷◌, Option, Some, None, option_map}
 use Rattle.std.specs.Borrow.{Bor}
 use Rattle.std.specs.List.{slice_split}
 use Rattle.tlsf_lines.specs.Fields.{values_in}
 use Rattle.tlsf_lines.specs.Lines.{kinds_of, line_from}
-use Rattle.tlsf_lines.specs.Values.{Kind, Value, Number, BadNumber}
+use Rattle.tlsf_lines.specs.Values.{Value, Number, BadNumber}
 use Rattle.tlsf_lines.specs.declared.line.Line.{Line}
 use Rattle.tlsf_lines.specs.declared.keyword.Keyword.{Keyword}
+use Rattle.tlsf_lines.specs.declared.kind.Kind.{Kind}
 
 -- a number, or none where it is a bad one
 abbrev pub value_of : Option ℕ → Value
@@ -36,14 +37,11 @@ only_by say [] = None
 only_by say (field ∷ []) = say field
 only_by say (field ∷ next ∷ fields) = None
 
--- the first fields, of these kinds, say these values, and those that are left say what follows them
-abbrev pub SayFirst : ℕ → List Kind → List (List ℕ) → List Value → List (List ℕ) → Type 0
-SayFirst workers kinds fields values left = (behind : List Kind) → values_in workers (kinds ++ behind) fields ≡ option_map (λ more. values ++ more) (values_in workers behind left)
-
--- the first fields have not the shape of these kinds
-abbrev pub SayNothing : ℕ → List Kind → List (List ℕ) → Type 0
-SayNothing workers kinds fields = (behind : List Kind) → values_in workers (kinds ++ behind) fields ≡ None
-
 -- what the fields after a keyword say: nothing where they have not its shape, and no line where a number is bad
 abbrev pub line_behind : ℕ → Keyword → List (List ℕ) → Option (Option Line)
 line_behind workers keyword fields = option_map (λ values. line_from keyword values) (values_in workers (kinds_of keyword) fields)
+
+-- the same after a worker and a label, where fields of these kinds are left. They have the same numbers for all workers
+abbrev pub line_behind_block : Keyword → List Kind → (worker label : Option ℕ) → List (List ℕ) → Option (Option Line)
+line_behind_block keyword kinds worker label fields =
+    option_map (λ values. line_from keyword (value_of worker ∷ value_of label ∷ values)) (values_in 0 kinds fields)

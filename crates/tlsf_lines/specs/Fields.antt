@@ -1,11 +1,13 @@
 -- The fields of a line, and what a field says.
-use Rattle.std.specs.Prelude.{ℕ, ◌-◌, Bool, ◌&&◌, ◌||◌, not, nat_le, nat_lt, ◌==◌, if◌then◌else◌, List, [], ◌∷◌, length, take, slice_index, slice_index_or, Option, Some, None, option_and_then, option_map}
+use Rattle.std.specs.Prelude.{ℕ, ◌-◌, Bool, true, false, ◌&&◌, ◌||◌, not, nat_le, nat_lt, ◌==◌, if◌then◌else◌, List, [], ◌∷◌, length, take, slice_index, slice_index_or, Option, Some, None, option_and_then, option_map}
 use Rattle.std.specs.List.{slice_split}
 use Rattle.std.specs.Str.{all_ascii_digits}
 use Rattle.std.specs.Str.Parse.{digits_value}
-use Rattle.tlsf_lines.specs.Values.{Kind, Worker, Label, Length, Offset, Hex, Count, Most}
+use Rattle.tlsf_lines.specs.declared.kind.Kind.{Kind}
+use Rattle.tlsf_lines.specs.declared.kind.Kind.TheVariants.{Worker, Label, Length, Offset, Payload, Count, Most, Workers, Words, Capacity}
 use Rattle.tlsf_lines.specs.Values.{Value, Number, BadNumber, Bytes}
 use Rattle.tlsf_lines.specs.Payloads.{chunk_in}
+use Rattle.tlsf_lines.specs.Versions.{most_words_of}
 
 -- the fields of a piece that has its line feed: what stands between spaces
 abbrev pub fields_in : List ℕ → Option (List (List ℕ))
@@ -42,13 +44,21 @@ range_of workers Worker = (0, workers - 1)
 range_of workers Label = (0, 65535)
 range_of workers Length = (0, 4294967295)
 range_of workers Offset = (0, 4294967295)
-range_of workers Hex = (0, 0)  -- no number
+range_of workers Payload = (0, 0)  -- no number
 range_of workers Count = (1, 64)
 range_of workers Most = (1, 8192)
+range_of workers Workers = (1, 8)
+range_of workers (Words version) = (4, most_words_of version)
+range_of workers Capacity = (1, 1024)
+
+-- whether a field of this kind is a number, and not payload bytes
+abbrev pub is_number : Kind → Bool
+is_number Payload = false
+is_number kind = true
 
 -- what a field says, if it has the shape of its kind
 abbrev pub value_in : ℕ → Kind → List ℕ → Option Value
-value_in workers Hex field = option_map (λ chunk. Bytes chunk) (chunk_in field)
+value_in workers Payload field = option_map (λ chunk. Bytes chunk) (chunk_in field)
 value_in workers kind field = digits_in (range_of workers kind) field
 
 -- go on with what was found

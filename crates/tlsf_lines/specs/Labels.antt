@@ -19,12 +19,8 @@ at_phase Earlier = Earlier
 abbrev pub made_of : ℕ → List Line → Made
 made_of label [] = Never
 made_of label (Allocate worker made length ∷ before) = if made == label then Now worker else made_of label before
-made_of label (Release worker used ∷ before) = made_of label before
-made_of label (Write worker used at bytes ∷ before) = made_of label before
-made_of label (Read worker used at n ∷ before) = made_of label before
-made_of label (Resize worker used length ∷ before) = made_of label before
-made_of label (Drain worker most ∷ before) = made_of label before
 made_of label (Phase ∷ before) = at_phase (made_of label before)
+made_of label (line ∷ before) = made_of label before
 
 -- whether a line may make the label
 abbrev pub can_make : Made → Bool

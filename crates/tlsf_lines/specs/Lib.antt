@@ -1,11 +1,11 @@
 -- Definitions that clauses of public functions cite: a text, its lines, its trace, its events, and reply lines.
 pub mod Payloads
 pub mod Values
+pub mod Versions
 pub mod Fields
 pub mod Lines
 pub mod ByLabel
 pub mod Labels
-pub mod Versions
 pub mod Header
 pub mod Pieces
 pub mod Trace

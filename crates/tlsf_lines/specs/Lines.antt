@@ -1,7 +1,8 @@
 -- The lines of a trace after its header: the table of keywords, and what the fields of a line say.
 use Rattle.std.specs.Prelude.{ℕ, Bool, true, false, if◌then◌else◌, List, [], ◌∷◌, codes, Option, Some, None}
 use Rattle.std.specs.Str.{bytes_eq}
-use Rattle.tlsf_lines.specs.Values.{Kind, Worker, Label, Length, Offset, Hex, Count, Most}
+use Rattle.tlsf_lines.specs.declared.kind.Kind.{Kind}
+use Rattle.tlsf_lines.specs.declared.kind.Kind.TheVariants.{Worker, Label, Length, Offset, Payload, Count, Most}
 use Rattle.tlsf_lines.specs.declared.line.Line.{Line}
 use Rattle.tlsf_lines.specs.declared.line.Line.TheVariants.{Allocate, Release, Write, Read, Resize, Drain, Phase}
 use Rattle.tlsf_lines.specs.declared.request.Request.{Request}
@@ -24,7 +25,7 @@ keyword_of (row ∷ rows) field = if bytes_eq field row.0 then Some row.1 else k
 abbrev pub kinds_of : Keyword → List Kind
 kinds_of keyword.Allocate = Worker ∷ Label ∷ Length ∷ []
 kinds_of keyword.Release = Worker ∷ Label ∷ []
-kinds_of keyword.Write = Worker ∷ Label ∷ Offset ∷ Hex ∷ []
+kinds_of keyword.Write = Worker ∷ Label ∷ Offset ∷ Payload ∷ []
 kinds_of keyword.Read = Worker ∷ Label ∷ Offset ∷ Count ∷ []
 kinds_of keyword.Resize = Worker ∷ Label ∷ Length ∷ []
 kinds_of keyword.Drain = Worker ∷ Most ∷ []

@@ -1,5 +1,5 @@
 -- The faults that a replay answers, by their numbers and lines.
-use Rattle.std.specs.Prelude.{◌≡◌, ℕ, ◌≤◌, List, Option, Some, None, Result, Ok, Err}
+use Rattle.std.specs.Prelude.{◌≡◌, ◌⊎◌, ℕ, ◌≤◌, List, Option, Some, None, Result, Ok, Err}
 use Rattle.tlsf_lines.specs.LineFaults.{number_of_fault}
 use Rattle.tlsf_lines.specs.Trace.{Trace, trace_of}
 use Rattle.tlsf_lines.specs.declared.line_fault.LineFault.{LineFault}
@@ -51,3 +51,7 @@ fault_by (Err fault) = Some (fault_in fault.0 fault.1)
 
 abbrev pub fault_of : List ℕ → Option TraceFault
 fault_of text = fault_by (trace_of text)
+
+-- the fault of a text that was read: a want of memory, or its first fault, which is that of a line
+abbrev pub IsTextFault : List ℕ → TraceFault → Type 0
+IsTextFault text fault = (fault ≡ no_memory_fault) ⊎ (IsLineFault fault × (fault_of text ≡ Some fault))

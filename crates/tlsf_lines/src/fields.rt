@@ -63,6 +63,7 @@ pub fn last_number(fields: Option<&[u8]>, least: u32, most: u32) -> Option<Optio
 }
 
 /// The payload bytes that the one field left spells; `None` where it spells none, and where there is another.
+#[tactic(auto, using(crate::proofs::LastField::last_chunk))]
 pub fn last_payload(fields: Option<&[u8]>) -> Option<Chunk>
     ensures { option_map (λ chunk. Bytes chunk) result ≡ only_by (λ f. option_map (λ chunk. Bytes chunk) (Payloads.chunk_in f)) (fields_left fields.entry) }
 {

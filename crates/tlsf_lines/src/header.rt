@@ -1,20 +1,13 @@
 ghost use Rattle.std.specs.Prelude.{◌≡◌, ◌≢◌, ◌≤◌, ◌∷◌, [], IfSome, MatchOption, length};
 ghost use Rattle.tlsf_lines.specs.CutFields.{fields_of};
+ghost use Rattle.tlsf_lines.specs.Fields.{range_of};
 ghost use Rattle.tlsf_lines.specs.Header as spelled;
 ghost use Rattle.tlsf_lines.specs.Ranges.{IsHeaderInRange};
 
 use crate::fields::{cut_feed, cut_field};
+use crate::kind::Kind;
 use crate::numbers::digits_in;
 use crate::version::Version;
-
-/// The most workers that a header may name.
-const MOST_WORKERS: u32 = 8;
-
-/// The fewest words of a heap.
-const LEAST_WORDS: u32 = 4;
-
-/// The most posts that a lane may hold.
-const MOST_CAPACITY: u32 = 1024;
 
 /// The first line of a trace.
 ///
@@ -33,11 +26,12 @@ pub struct Header {
     pub capacity: u32,
 }
 
-/// The number from `least` to `most` that a field spells; `None` where it spells none of them.
-fn number_in(field: &[u8], least: u32, most: u32) -> Option<u32>
-    ensures number { result ≡ spelled.number_in (least, most) field.now }
-    ensures range { IfSome result (λ n. (least ≤ n) × (n ≤ most)) }
+/// The number of a kind that a field spells; `None` where it spells none.
+fn number_in(field: &[u8], kind: Kind) -> Option<u32>
+    ensures number { result ≡ spelled.number_in (range_of 0 kind) field.now }
+    ensures range { IfSome result (λ n. ((range_of 0 kind).0 ≤ n) × (n ≤ (range_of 0 kind).1)) }
 {
+    let (least, most) = kind.range(0);
     digits_in(field, least, most)?
 }
 
@@ -46,9 +40,9 @@ fn header_from(version: Version, workers: &[u8], words: &[u8], capacity: &[u8]) 
     ensures header { result ≡ spelled.header_from version workers.now words.now capacity.now }
     ensures ranges { IfSome result IsHeaderInRange }
 {
-    let workers = number_in(workers, 1, MOST_WORKERS)?;
-    let words = number_in(words, LEAST_WORDS, version.most_words())?;
-    let capacity = number_in(capacity, 1, MOST_CAPACITY)?;
+    let workers = number_in(workers, Kind::Workers)?;
+    let words = number_in(words, Kind::Words(version))?;
+    let capacity = number_in(capacity, Kind::Capacity)?;
     Some(Header {
         version,
         workers,

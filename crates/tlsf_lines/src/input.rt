@@ -1,6 +1,6 @@
 ghost use Rattle.std.specs.Prelude.{◌≡◌, ℕ, ◌+◌, ◌==◌, ◌<◌, ◌≤◌, List, length, IfErr, IfOk, IsErrOf, OnOk, IfSome, count_by};
-ghost use Rattle.std.specs.Io.KnownBytes.{Consumes, IsAtEnd};
-ghost use Rattle.tlsf_lines.specs.Limits.{IsTooLong, IsWithinLimits, Passes};
+ghost use Rattle.std.specs.Io.KnownBytes.{Consumes};
+ghost use Rattle.tlsf_lines.specs.Limits.{IsReadWhole, IsTooLong, Passes};
 ghost use Rattle.tlsf_lines.specs.OpenLines.{open_count};
 ghost use Rattle.tlsf_lines.specs.ReadCounts.{IsOver};
 ghost use Rattle.tlsf_lines.specs.TraceFaults.{fault_of_read, too_long_fault};
@@ -82,12 +82,7 @@ pub fn read_counted<R: Read>(
     reader: &mut R,
     count: &mut ReadCount,
 ) -> Result<Vec<u8>, ReadError>
-    ensures whole { IfOk result (λ text. IfSome (R.remaining reader.old)
-        (λ left. text.items ≡ left)) }
-    ensures consumed { IfOk result (λ text.
-        Consumes (R.remaining reader.old) (R.remaining reader.new) text.items) }
-    ensures end { OnOk result (IsAtEnd (R.remaining reader.new)) }
-    ensures limits { IfOk result (λ text. IsWithinLimits text.items) }
+    ensures read { IfOk result (λ text. IsReadWhole (R.remaining reader.old) (R.remaining reader.new) text.items) }
 
     // An input is accepted only where a read showed its end.
     ensures ended { OnOk result (count.new.last ≡ Ended) }
@@ -135,12 +130,7 @@ pub fn read_counted<R: Read>(
 ///
 /// [`ReadError`]: memory, a limit that the text passes, or a read that answered an error.
 pub fn read_all<R: Read>(alloc: Global, reader: &mut R) -> Result<Vec<u8>, ReadError>
-    ensures whole { IfOk result (λ text. IfSome (R.remaining reader.old)
-        (λ left. text.items ≡ left)) }
-    ensures consumed { IfOk result (λ text.
-        Consumes (R.remaining reader.old) (R.remaining reader.new) text.items) }
-    ensures end { OnOk result (IsAtEnd (R.remaining reader.new)) }
-    ensures limits { IfOk result (λ text. IsWithinLimits text.items) }
+    ensures read { IfOk result (λ text. IsReadWhole (R.remaining reader.old) (R.remaining reader.new) text.items) }
 
     // An input is refused for its length only where it has that many bytes or lines.
     ensures too_long { IfErr result (λ error. fault_of_read error ≡ too_long_fault

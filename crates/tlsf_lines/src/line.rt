@@ -71,30 +71,14 @@ impl Line {
     pub(crate) fn is_call(&self) -> bool
         ensures { result ≡ Lines.is_call self.now }
     {
-        match self {
-            Line::Phase => false,
-            Line::Allocate { .. }
-            | Line::Release { .. }
-            | Line::Write { .. }
-            | Line::Read { .. }
-            | Line::Resize { .. }
-            | Line::Drain { .. } => true,
-        }
+        !matches!(self, Line::Phase)
     }
 
     /// How many events the line stands for: the end of a phase is a drain of each worker.
     pub(crate) fn width(&self, workers: u32) -> u32
         ensures { result ≡ Events.width_of workers self.now }
     {
-        match self {
-            Line::Phase => workers,
-            Line::Allocate { .. }
-            | Line::Release { .. }
-            | Line::Write { .. }
-            | Line::Read { .. }
-            | Line::Resize { .. }
-            | Line::Drain { .. } => 1,
-        }
+        if self.is_call() { 1 } else { workers }
     }
 
     /// The block that the line asks for: an allocate asks for one, and no other line does.
@@ -103,12 +87,7 @@ impl Line {
     {
         match *self {
             Line::Allocate { worker, len, .. } => Some(Request { worker, len }),
-            Line::Release { .. }
-            | Line::Write { .. }
-            | Line::Read { .. }
-            | Line::Resize { .. }
-            | Line::Drain { .. }
-            | Line::Phase => None,
+            _ => None,
         }
     }
 

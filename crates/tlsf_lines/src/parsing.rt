@@ -58,7 +58,7 @@ fn room_for_lines(text: &[u8]) -> usize
 }
 
 // The header that a text begins with, and the text after its line.
-#[tactic(auto, unfolding(crate::specs::Trace::trace_of))]
+#[tactic(auto, using(crate::proofs::EmptyText::empty_text), unfolding(crate::specs::Trace::trace_of))]
 fn cut_header(text: &[u8]) -> Result<(Header, &[u8]), ParseError>
     ensures ok { IfOk result (λ cut. Heads text.now cut.0 cut.1.now) }
     ensures err { IfErr result (λ error. FailsAt error (spelled.trace_of text.now)) }

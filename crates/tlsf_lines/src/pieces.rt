@@ -10,6 +10,7 @@ use memchr::memchr;
 /// // of "ab\nc" they are "ab\n" and "c"
 /// ```
 #[inline(always)]
+#[tactic(auto, using(crate::proofs::FirstPiece::cut_at, crate::proofs::FirstPiece::not_cut, crate::proofs::FirstPiece::free_before))]
 pub fn cut_piece(text: &[u8]) -> (&[u8], &[u8])
     requires { 0 < length text.now }
     ensures pieces { pieces_of text.now ≡ result.0.now ∷ pieces_of result.1.now }

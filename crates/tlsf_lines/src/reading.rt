@@ -1,11 +1,11 @@
 //! The fields of a line, word by word. Each function reads its fields from left to right, once. It answers `None` where a field has
 //! not its shape, is missing or is left over, and `None` inside where a number is bad.
-ghost use Rattle.std.specs.Prelude.{◌≡◌, ◌<◌, ℕ, ◌∷◌, [], MatchOption, option_map};
-ghost use Rattle.tlsf_lines.specs.CutFields.{SayFirst, SayNothing, fields_left, line_behind, value_of};
-ghost use Rattle.tlsf_lines.specs.Fields.{values_in};
+ghost use Rattle.std.specs.Prelude.{◌≡◌, ◌<◌, ℕ, ◌∷◌, []};
+ghost use Rattle.tlsf_lines.specs.CutFields.{fields_left, line_behind, line_behind_block, value_of};
 ghost use Rattle.tlsf_lines.specs.Lines;
-ghost use Rattle.tlsf_lines.specs.Values.{Worker, Label, Length, Offset, Bytes};
+ghost use Rattle.tlsf_lines.specs.Values.{Bytes};
 ghost use Rattle.tlsf_lines.specs.declared.keyword.Keyword.TheVariants as keyword;
+ghost use Rattle.tlsf_lines.specs.declared.kind.Kind.TheVariants.{Count, Offset, Payload};
 
 use crate::fields::{last_number, last_payload, next_number};
 use crate::keyword::Keyword;
@@ -94,57 +94,14 @@ fn make_drain(worker: Option<u32>, most: Option<u32>) -> Option<Line>
     })
 }
 
-// The worker and the label that the first two fields say, and the fields after them.
-#[inline(always)]
-fn next_block(
-    workers: u32,
-    fields: Option<&[u8]>,
-) -> Option<(Option<u32>, Option<u32>, Option<&[u8]>)>
-    requires { 0 < workers }
-    ensures { MatchOption result (SayNothing workers (Worker ∷ Label ∷ []) (fields_left fields.entry))
-        (λ found. SayFirst workers (Worker ∷ Label ∷ []) (fields_left fields.entry) (value_of found.0 ∷ value_of found.1 ∷ []) (fields_left found.2)) }
-{
-    let (worker, fields) = next_number(fields, 0, workers - 1)?;
-    let (label, fields) = next_number(fields, 0, MOST_LABEL)?;
-    Some((worker, label, fields))
-}
-
-// A place in a block: the worker, the label and the byte that the first three fields say, and the fields behind them.
-#[inline(always)]
-fn next_place(
-    workers: u32,
-    fields: Option<&[u8]>,
-) -> Option<(Option<u32>, Option<u32>, Option<u32>, Option<&[u8]>)>
-    requires { 0 < workers }
-    ensures { MatchOption result (SayNothing workers (Worker ∷ Label ∷ Offset ∷ []) (fields_left fields.entry))
-        (λ found. SayFirst workers (Worker ∷ Label ∷ Offset ∷ []) (fields_left fields.entry) (value_of found.0 ∷ value_of found.1 ∷ value_of found.2 ∷ []) (fields_left found.3)) }
-{
-    let (worker, label, fields) = next_block(workers, fields)?;
-    let (at, fields) = next_number(fields, 0, u32::MAX)?;
-    Some((worker, label, at, fields))
-}
-
-// The worker, the label and the length that all three fields say.
-#[inline(always)]
-fn last_length(
-    workers: u32,
-    fields: Option<&[u8]>,
-) -> Option<(Option<u32>, Option<u32>, Option<u32>)>
-    requires { 0 < workers }
-    ensures { option_map (λ found. value_of found.0 ∷ value_of found.1 ∷ value_of found.2 ∷ []) result
-        ≡ values_in workers (Worker ∷ Label ∷ Length ∷ []) (fields_left fields.entry) }
-{
-    let (worker, label, fields) = next_block(workers, fields)?;
-    let len = last_number(fields, 0, u32::MAX)?;
-    Some((worker, label, len))
-}
-
 // `a w L len`, after its keyword.
 fn parse_allocate(workers: u32, fields: Option<&[u8]>) -> Option<Option<Line>>
     requires { 0 < workers }
     ensures { result ≡ line_behind workers keyword.Allocate (fields_left fields.entry) }
 {
-    let (worker, label, len) = last_length(workers, fields)?;
+    let (worker, fields) = next_number(fields, 0, workers - 1)?;
+    let (label, fields) = next_number(fields, 0, MOST_LABEL)?;
+    let len = last_number(fields, 0, u32::MAX)?;
     Some(make_allocate(worker, label, len))
 }
 
@@ -158,14 +115,42 @@ fn parse_release(workers: u32, fields: Option<&[u8]>) -> Option<Option<Line>>
     Some(make_release(worker, label))
 }
 
+// The byte and the payload of `p w L at HEX`, behind its worker and its label.
+#[inline(always)]
+fn write_behind(
+    worker: Option<u32>,
+    label: Option<u32>,
+    fields: Option<&[u8]>,
+) -> Option<Option<Line>>
+    ensures { result ≡ line_behind_block keyword.Write (Offset ∷ Payload ∷ []) worker label (fields_left fields.entry) }
+{
+    let (at, fields) = next_number(fields, 0, u32::MAX)?;
+    let bytes = last_payload(fields)?;
+    Some(make_write(worker, label, at, bytes))
+}
+
 // `p w L at HEX`, after its keyword.
 fn parse_write(workers: u32, fields: Option<&[u8]>) -> Option<Option<Line>>
     requires { 0 < workers }
     ensures { result ≡ line_behind workers keyword.Write (fields_left fields.entry) }
 {
-    let (worker, label, at, fields) = next_place(workers, fields)?;
-    let bytes = last_payload(fields)?;
-    Some(make_write(worker, label, at, bytes))
+    let (worker, fields) = next_number(fields, 0, workers - 1)?;
+    let (label, fields) = next_number(fields, 0, MOST_LABEL)?;
+    write_behind(worker, label, fields)
+}
+
+// The byte and the count of `g w L at n`, behind its worker and its label.
+#[inline(always)]
+fn read_behind(
+    worker: Option<u32>,
+    label: Option<u32>,
+    fields: Option<&[u8]>,
+) -> Option<Option<Line>>
+    ensures { result ≡ line_behind_block keyword.Read (Offset ∷ Count ∷ []) worker label (fields_left fields.entry) }
+{
+    let (at, fields) = next_number(fields, 0, u32::MAX)?;
+    let n = last_number(fields, 1, MOST_COUNT)?;
+    Some(make_read(worker, label, at, n))
 }
 
 // `g w L at n`, after its keyword.
@@ -173,9 +158,9 @@ fn parse_read(workers: u32, fields: Option<&[u8]>) -> Option<Option<Line>>
     requires { 0 < workers }
     ensures { result ≡ line_behind workers keyword.Read (fields_left fields.entry) }
 {
-    let (worker, label, at, fields) = next_place(workers, fields)?;
-    let n = last_number(fields, 1, MOST_COUNT)?;
-    Some(make_read(worker, label, at, n))
+    let (worker, fields) = next_number(fields, 0, workers - 1)?;
+    let (label, fields) = next_number(fields, 0, MOST_LABEL)?;
+    read_behind(worker, label, fields)
 }
 
 // `r w L len`, after its keyword.
@@ -183,7 +168,9 @@ fn parse_resize(workers: u32, fields: Option<&[u8]>) -> Option<Option<Line>>
     requires { 0 < workers }
     ensures { result ≡ line_behind workers keyword.Resize (fields_left fields.entry) }
 {
-    let (worker, label, len) = last_length(workers, fields)?;
+    let (worker, fields) = next_number(fields, 0, workers - 1)?;
+    let (label, fields) = next_number(fields, 0, MOST_LABEL)?;
+    let len = last_number(fields, 0, u32::MAX)?;
     Some(make_resize(worker, label, len))
 }
 

@@ -1,10 +1,10 @@
 //! A whole text, judged: what it spells, or its first fault.
-ghost use Rattle.std.specs.Prelude.{◌≡◌, ◌⊎◌, ◌≤◌, Some, Ok, IfOk, IfErr, vec_len};
+ghost use Rattle.std.specs.Prelude.{◌≡◌, ◌≤◌, Ok, IfOk, IfErr, vec_len};
 ghost use Rattle.tlsf_lines.specs.Limits.{IsWithinLimits};
 ghost use Rattle.tlsf_lines.specs.Ranges.{IsHeaderInRange};
 ghost use Rattle.tlsf_lines.specs.ScriptSoFar.{IsScriptOfText};
 ghost use Rattle.tlsf_lines.specs.Trace.{trace_of};
-ghost use Rattle.tlsf_lines.specs.TraceFaults.{IsLineFault, fault_of, no_memory_fault};
+ghost use Rattle.tlsf_lines.specs.TraceFaults.{IsTextFault};
 ghost use Rattle.tlsf_lines.specs.Views.{view_trace};
 
 use crate::parsing::parse;
@@ -31,7 +31,7 @@ pub fn trace_in(alloc: Global, text: &[u8]) -> Result<Trace, TraceFault>
     ensures ok { IfOk result (λ trace. trace_of text.now ≡ Ok (view_trace trace)) }
     ensures header { IfOk result (λ trace. IsHeaderInRange trace.header) }
     ensures lines { IfOk result (λ trace. vec_len trace.lines ≤ 32768) }
-    ensures err { IfErr result (λ fault. (fault ≡ no_memory_fault) ⊎ (IsLineFault fault × (fault_of text.now ≡ Some fault))) }
+    ensures err { IfErr result (IsTextFault text.now) }
 {
     Ok(parse::<Trace>(alloc, text)?)
 }
@@ -53,7 +53,7 @@ pub fn script_in(alloc: Global, text: &[u8]) -> Result<Script, TraceFault>
     ensures ok { IfOk result (λ script. IsScriptOfText text.now script) }
     ensures header { IfOk result (λ script. IsHeaderInRange script.header) }
     ensures lines { IfOk result (λ script. vec_len script.ends ≤ 32768) }
-    ensures err { IfErr result (λ fault. (fault ≡ no_memory_fault) ⊎ (IsLineFault fault × (fault_of text.now ≡ Some fault))) }
+    ensures err { IfErr result (IsTextFault text.now) }
 {
     Ok(parse::<Script>(alloc, text)?)
 }

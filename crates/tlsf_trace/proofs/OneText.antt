@@ -6,7 +6,7 @@ use Rattle.tlsf_crew.specs.race_laws.QueueAlone.{IsUncontendedRace}
 use Rattle.tlsf_crew.specs.races.QueueRace.{IsQueueRace}
 use Rattle.tlsf_crew.proofs.lemmas.race_laws.QueueAlone.{queue_race_is_one, two_uncontended}
 use Rattle.tlsf_crew.proofs.lemmas.race_laws.OneRace.{race_is_one}
-use Rattle.tlsf_lines.specs.declared.line.Line.TheVariants.{Allocate, Release, Write, Read, Resize, Drain, Phase}
+use Rattle.tlsf_lines.specs.declared.line.Line.TheVariants.{Drain, Phase}
 use Rattle.tlsf_trace.specs.OneText.{HasNoDrain, IsNoDrain, IsUncontendedOutput, RaceGivesOneText}
 use Rattle.tlsf_trace.proofs.RacedPhases.{opened_count}
 
@@ -22,13 +22,8 @@ first_none line (phase ∷ phases) one all = ((one, all.0), all.1)
 
 phases_none : (lines : List Line) → HasNone lines → AllByRecursion HasNone (phases_of lines)
 phases_none [] all = (tt, tt)
-phases_none (Allocate worker label len ∷ lines) all = first_none (Allocate worker label len) (phases_of lines) tt (phases_none lines all.1)
-phases_none (Release worker label ∷ lines) all = first_none (Release worker label) (phases_of lines) tt (phases_none lines all.1)
-phases_none (Write worker label at bytes ∷ lines) all = first_none (Write worker label at bytes) (phases_of lines) tt (phases_none lines all.1)
-phases_none (Read worker label at n ∷ lines) all = first_none (Read worker label at n) (phases_of lines) tt (phases_none lines all.1)
-phases_none (Resize worker label len ∷ lines) all = first_none (Resize worker label len) (phases_of lines) tt (phases_none lines all.1)
-phases_none (Drain worker most ∷ lines) all = absurd all.0
 phases_none (Phase ∷ lines) all = (tt, phases_none lines all.1)
+phases_none (line ∷ lines) all = first_none line (phases_of lines) all.0 (phases_none lines all.1)
 
 -- ---- its scripts
 
@@ -43,13 +38,9 @@ free_line known w line lines before false e one rest = rw e (rest before)
 
 free_lines : (known : ℕ → Option Name) (w : ℕ) (lines : List Line) → HasNone lines → AreFree known w lines
 free_lines known w [] all before = tt
-free_lines known w (Allocate worker label len ∷ lines) all before = free_line known w (Allocate worker label len) lines before (worker == w) refl tt (free_lines known w lines all.1)
-free_lines known w (Release worker label ∷ lines) all before = free_line known w (Release worker label) lines before (worker == w) refl tt (free_lines known w lines all.1)
-free_lines known w (Write worker label at bytes ∷ lines) all before = free_line known w (Write worker label at bytes) lines before (worker == w) refl tt (free_lines known w lines all.1)
-free_lines known w (Read worker label at n ∷ lines) all before = free_line known w (Read worker label at n) lines before (worker == w) refl tt (free_lines known w lines all.1)
-free_lines known w (Resize worker label len ∷ lines) all before = free_line known w (Resize worker label len) lines before (worker == w) refl tt (free_lines known w lines all.1)
 free_lines known w (Drain worker most ∷ lines) all before = absurd all.0
 free_lines known w (Phase ∷ lines) all before = free_lines known w lines all.1 before
+free_lines known w (line ∷ lines) all before = free_line known w line lines before (is_line_of w line) refl tt (free_lines known w lines all.1)
 
 free_scripts : (known : ℕ → Option Name) (phase : List Line) → HasNone phase → (workers : List ℕ) (j : ℕ) → AllByRecursion TakesNoPost (get_or (map (script_in known phase) workers) j [])
 free_scripts known phase all [] j = tt

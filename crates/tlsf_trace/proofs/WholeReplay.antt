@@ -1,19 +1,13 @@
 -- A replay that is done.
 use Rattle.std.proofs.Common.{◌≡◌, ℕ, List, Option, Some, None, Result, Ok, Err, IfSome, sym, ap, ◌∙◌, subst, inr, arith}
-use Rattle.std.specs.Io.KnownBytes.{IsAtEnd}
 use Rattle.tlsf_trace.specs.Finish.{Finishes, IsCutShort, IsFinished}
-use Rattle.tlsf_lines.specs.Limits.{IsWithinLimits}
+use Rattle.tlsf_lines.specs.Limits.{IsReadWhole, IsWithinLimits}
 use Rattle.tlsf_trace.specs.Replay.{AsksFor, IsRun, Outputs, Writes, WritesPrefix}
 use Rattle.tlsf_lines.specs.TraceFaults.{too_long_fault, write_fault, IsLineFault}
-use Rattle.tlsf_lines.specs.declared.line_fault.LineFault.TheVariants.{BadHeader, BadLine, BadNumber, LabelOrder}
+use Rattle.tlsf_lines.specs.declared.line_fault.LineFault.TheVariants.{BadHeader}
+use Rattle.tlsf_lines.specs.LineFaults.{number_of_fault}
 use Rattle.tlsf_trace.specs.declared.summary.Summary.{Summary}
 use Rattle.tlsf_lines.specs.declared.trace_fault.TraceFault.{TraceFault}
-
--- the text that was left was read to its end, within the limits
-pub record IsReadWhole (text : List ℕ) (left left' : Option (List ℕ)) : Type 0 where
-  pub whole : IfSome left (λ all. text ≡ all)
-  pub end : IsAtEnd left'
-  pub limits : IsWithinLimits text
 
 -- a fact of the text that was read, where it is known what the reader had left
 of_read : (P : List ℕ → Type 0) (left : Option (List ℕ)) (text : List ℕ) → IfSome left (λ l. text ≡ l) → P text → IfSome left P
@@ -22,7 +16,7 @@ of_read P (Some l) text same h = subst P same h
 
 -- the text was read to its end and within the limits, and all that it asks for was written
 all_written : {Puts : Outputs} {left left' held holds : Option (List ℕ)} {text output : List ℕ} {calls : ℕ} {summary : Summary}
-    → IsReadWhole text left left' → AsksFor Puts text output calls → IsFinished summary calls output held holds → IsRun Puts (Ok summary) left left' held holds
+    → IsReadWhole left left' text → AsksFor Puts text output calls → IsFinished summary calls output held holds → IsRun Puts (Ok summary) left left' held holds
 all_written {Puts = Puts} {left = left} {held = held} {holds = holds} {text = text} {output = output} {summary = summary} read asked done = record {
   ok = of_read (λ t. Writes Puts summary t held holds) left text read.whole
       (record { output = output; asked = record { trace = asked.trace; spelled = asked.spelled; puts = asked.puts; calls_are = done.calls_are ∙ asked.calls_are }; all = done.all; bytes = done.bytes });
@@ -38,16 +32,14 @@ all_written {Puts = Puts} {left = left} {held = held} {holds = holds} {text = te
 -- a write fault is that of no line, and of no length
 no_line : (fault : TraceFault) → fault ≡ write_fault → IsLineFault fault → ⊥
 no_line fault is (BadHeader, line, from, same) = let no : 17 ≡ 11 = ap (λ (f : TraceFault). f.no) (sym is ∙ same) in absurd (omega (arith, no))
-no_line fault is (BadLine, line, from, same) = let no : 17 ≡ 12 = ap (λ (f : TraceFault). f.no) (sym is ∙ same) in absurd (omega (arith, no))
-no_line fault is (BadNumber, line, from, same) = let no : 17 ≡ 13 = ap (λ (f : TraceFault). f.no) (sym is ∙ same) in absurd (omega (arith, no))
-no_line fault is (LabelOrder, line, from, same) = let no : 17 ≡ 14 = ap (λ (f : TraceFault). f.no) (sym is ∙ same) in absurd (omega (arith, no))
+no_line fault is (why, line, from, same) = let no : 17 ≡ number_of_fault why = ap (λ (f : TraceFault). f.no) (sym is ∙ same) in absurd (omega (arith, no))
 
 no_length : (fault : TraceFault) → fault ≡ write_fault → fault ≡ too_long_fault → ⊥
 no_length fault is long = let no : 17 ≡ 15 = ap (λ (f : TraceFault). f.no) (sym is ∙ long) in absurd (omega (arith, no))
 
 -- a prefix of what the text asks for was written, and then a write failed
 cut_short : {Puts : Outputs} {left left' held holds : Option (List ℕ)} {text output : List ℕ} {calls : ℕ} {fault : TraceFault}
-    → IsReadWhole text left left' → AsksFor Puts text output calls → IsCutShort fault output held holds → IsRun Puts (Err fault) left left' held holds
+    → IsReadWhole left left' text → AsksFor Puts text output calls → IsCutShort fault output held holds → IsRun Puts (Err fault) left left' held holds
 cut_short {Puts = Puts} {left = left} {held = held} {holds = holds} {text = text} {output = output} {calls = calls} {fault = fault} read asked cut = record {
   ok = tt;
   end = tt;
@@ -60,7 +52,7 @@ cut_short {Puts = Puts} {left = left} {held = held} {holds = holds} {text = text
 }
 
 -- the text was read and its trace's output was written, or a write failed
-pub run_is_done : {Puts : Outputs} {left left' held holds : Option (List ℕ)} (text output : List ℕ) (calls : ℕ) → IsReadWhole text left left' → AsksFor Puts text output calls
+pub run_is_done : {Puts : Outputs} {left left' held holds : Option (List ℕ)} (text output : List ℕ) (calls : ℕ) → IsReadWhole left left' text → AsksFor Puts text output calls
     → (answer : Result Summary TraceFault) → Finishes answer calls output held holds → IsRun Puts answer left left' held holds
 run_is_done text output calls read asked (Ok summary) done = all_written read asked done
 run_is_done text output calls read asked (Err fault) failed = cut_short read asked failed

@@ -72,12 +72,3 @@ pub record IsRun (Puts : Outputs) (answer : Result Summary TraceFault) (left lef
   -- after a fault in writing a prefix was written, after any other nothing
   pub front : IfErr answer (λ fault. fault ≡ write_fault → IfSome left (λ text. WritesPrefix Puts text written written' × IsWithinLimits text))
   pub kept : IfErr answer (λ fault. (fault ≡ write_fault → ⊥) → Keeps written written')
-
-abbrev pub IsReplay : Result Summary TraceFault → Option (List ℕ) → Option (List ℕ) → Option (List ℕ) → Option (List ℕ) → Type 0
-IsReplay = IsRun Replays
-
-abbrev pub IsRaceOfTrace : Result Summary TraceFault → Option (List ℕ) → Option (List ℕ) → Option (List ℕ) → Option (List ℕ) → Type 0
-IsRaceOfTrace = IsRun Races
-
-abbrev pub IsQueueRaceOfTrace : Result Summary TraceFault → Option (List ℕ) → Option (List ℕ) → Option (List ℕ) → Option (List ℕ) → Type 0
-IsQueueRaceOfTrace = IsRun RacesQueues

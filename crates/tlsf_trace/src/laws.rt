@@ -5,7 +5,7 @@ ghost use Rattle.tlsf_trace.specs.RaceOutput.{IsQueueRaceOutput, IsRaceOutput};
 ghost use Rattle.tlsf_lines.specs.Trace.{Trace};
 
 /// Each text that [`race_trace`](crate::race_trace) may write tells what each line of the trace was answered. It tells one history
-/// of each heap, from the first line to its report ([`tlsf_crew::one_history_of_a_race`] says so of the records of one phase):
+/// of each heap, from the first line to its report (`tlsf_yard_laws::one_history_of_a_race` says so of the records of one phase):
 ///
 /// - The text is the lines of the records, phase after phase, and then a report line for each worker's heap.
 /// - In each phase the record of a worker tells its lines, each once and in their order, and then the last drain (`told`). It tells
@@ -34,7 +34,7 @@ pub fn one_history_of_a_trace_raced_over_queues()
 /// A trace without `d` lines gives one text when it is raced, whatever the schedule of the threads. All texts that
 /// [`race_trace`](crate::race_trace) may write of it are the same.
 ///
-/// Its posts are taken in the last drains of the phases alone (`tlsf_crew::race_without_takes`). So it is for the trace of
+/// Its posts are taken in the last drains of the phases alone (`tlsf_yard_laws::race_without_takes`). So it is for the trace of
 /// `tlsf 1 2 64 4`, `a 0 1 8`, `phase`, `f 1 1`.
 pub fn trace_without_drains_gives_one_text()
     ensures { RaceGivesOneText }
@@ -44,7 +44,7 @@ pub fn trace_without_drains_gives_one_text()
 /// two workers no post may be refused for a full queue. Of two workers such a trace always does.
 ///
 /// Two workers may post to one, as in `tlsf 1 3 64 4`, `a 0 1 8`, `a 0 2 8`, `phase`, `f 2 1`, `f 1 2`. Then the order in which it
-/// takes their posts is up to the schedule (`tlsf_crew::queue_race_without_takes`).
+/// takes their posts is up to the schedule (`tlsf_yard_laws::queue_race_without_takes`).
 pub fn trace_without_drains_gives_one_text_over_queues()
     ensures one { (trace : Trace) (text other : List ℕ) → HasNoDrain trace → IsUncontendedOutput trace text → IsUncontendedOutput trace other → text ≡ other }
 

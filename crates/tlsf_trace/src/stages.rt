@@ -1,5 +1,5 @@
 ghost use Rattle.tlsf_trace.specs.RacedYards.{PutsOver};
-ghost use Rattle.tlsf_trace.specs.Replay.{IsReplay, IsQueueRaceOfTrace, IsRaceOfTrace, IsRun};
+ghost use Rattle.tlsf_trace.specs.Replay.{IsRun, Races, RacesQueues, Replays};
 ghost use Rattle.tlsf_trace.specs.Finish.{Finishes};
 
 use crate::output::Replay;
@@ -55,7 +55,7 @@ pub fn replay<R: Read, W: Write>(
     reader: &mut R,
     writer: &mut W,
 ) -> Result<Summary, TraceFault>
-    ensures { IsReplay result (R.remaining reader.old) (R.remaining reader.new)
+    ensures { IsRun Replays result (R.remaining reader.old) (R.remaining reader.new)
         (W.contents writer.old) (W.contents writer.new) }
 {
     play(alloc, &Replay, reader, writer)
@@ -106,7 +106,7 @@ pub fn race_trace<T: Threads + Wait + Sync, R: Read, W: Write, G: Gate>(
     writer: &mut W,
     gate: &G,
 ) -> Result<Summary, TraceFault>
-    ensures { IsRaceOfTrace result (R.remaining reader.old) (R.remaining reader.new)
+    ensures { IsRun Races result (R.remaining reader.old) (R.remaining reader.new)
         (W.contents writer.old) (W.contents writer.new) }
 {
     race_trace_over(rt, alloc, PortKind::Lanes, reader, writer, gate)
@@ -134,7 +134,7 @@ pub fn race_trace_over_queues<T: Threads + Wait + Sync, R: Read, W: Write, G: Ga
     writer: &mut W,
     gate: &G,
 ) -> Result<Summary, TraceFault>
-    ensures { IsQueueRaceOfTrace result (R.remaining reader.old) (R.remaining reader.new)
+    ensures { IsRun RacesQueues result (R.remaining reader.old) (R.remaining reader.new)
         (W.contents writer.old) (W.contents writer.new) }
 {
     race_trace_over(rt, alloc, PortKind::Queues, reader, writer, gate)

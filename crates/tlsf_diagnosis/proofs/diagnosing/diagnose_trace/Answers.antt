@@ -15,7 +15,7 @@ returns-in-Err-clause-noted g c =
 
 pub returns-clause-run : goal.returns-clause-run
 returns-clause-run g c =
-    run_is_done c.in-Ok.text.items (string_bytes c.in_ok-line.line) _ (record { whole = c.in-Ok.ensures.whole; end = c.in-Ok.ensures.end; limits = c.in-Ok.ensures.limits })
+    run_is_done c.in-Ok.text.items (string_bytes c.in_ok-line.line) _ c.in-Ok.ensures.read
     (record { trace = view_trace c.in-Ok-trace_in.trace; spelled = rw c.deref.ensures.value at c.in-Ok-trace_in.ensures.ok; puts = c.in_ok-line.ensures; calls_are = c.count_calls.ensures })
     c.finish.result (rw c.deref-2.ensures at c.finish.ensures)
 

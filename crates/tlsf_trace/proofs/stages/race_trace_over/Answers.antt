@@ -7,7 +7,7 @@ use Rattle.tlsf_trace.proofs.stages.race_trace_over.Goals as goal
 
 pub returns : goal.returns
 returns g c =
-    run_is_done c.in_ok-bytes.bytes.items (string_bytes c.in_ok-output.output) _ (record { whole = c.in_ok-bytes.ensures.whole; end = c.in_ok-bytes.ensures.end; limits = c.in_ok-bytes.ensures.limits })
+    run_is_done c.in_ok-bytes.bytes.items (string_bytes c.in_ok-output.output) _ c.in_ok-bytes.ensures.read
     (record { trace = view_trace c.in_ok-trace.trace; spelled = rw c.deref.ensures.value at c.in_ok-trace.ensures.ok; puts = c.in_ok-output.ensures; calls_are = c.count_calls.ensures })
     c.finish.result (rw c.deref-2.ensures at c.finish.ensures)
 
