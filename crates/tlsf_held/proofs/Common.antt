@@ -21,16 +21,14 @@ pub use Rattle.tlsf_heap.specs.Blocks.{want, HeapState}
 pub use Rattle.tlsf_heap.specs.Calls.{Call, Answer, Got, opened, run, Allocated, Released, Written, answered, read_of}
 pub use Rattle.tlsf_heap.specs.declared.name.Name.{Name}
 pub use Rattle.tlsf_heap.specs.declared.refusal.Refusal.{Refusal}
-pub use Rattle.tlsf_held.specs.Divisions.{cost_in, Divide, IsBest, part_words, no_split, rows_by, HasFirst, IsBestAmong, IsCheapest, lens_in, lens_of, words_by, AreBest, cheaper, AreCosts, HasAtMost, nothing, part_row, with_first}
+pub use Rattle.tlsf_held.specs.Divisions.{AddsMerged, cost_in, Divide, IsBest, part_words, no_split, rows_by, HasFirst, IsBestAmong, IsCheapest, lens_in, lens_of, words_by, AreBest, cheaper, AreCosts, HasAtMost, nothing, part_row, with_first}
 pub use Rattle.tlsf_held.specs.HeldLines.{held_text}
 unfoldable pub use Rattle.tlsf_held.specs.HeldLines.{held_region}
 pub use Rattle.tlsf_held.specs.KindLines.{kinds_text, kinds_line, pairs_text}
 pub use Rattle.tlsf_held.specs.KindTables.{IsLeastRow, IsOfRow, AreRows, KeepWithin, IsTable, kinds_of, lengths_with}
 pub use Rattle.tlsf_held.specs.Least.{IsScriptBut, KeepsScript, with_words, AreLeastRows, AreLeastWords, IsBracket, least_text, with_least}
-pub use Rattle.tlsf_held.specs.Lent.{inventory_of, with_len, others, with_loan}
-pub use Rattle.tlsf_held.specs.Loans.{account_of, Account, accounted, wanted_in, with_resized, with_taken, IsMostWanted, WantAtMost, freed_by, no_loans, wanted_with}
-pub use Rattle.tlsf_held.specs.Measures.{AreLeastBounds, EachServed, HeldKindsSuffice, HeldPoolsSuffice, IsServed, HeldWordsSuffice, IsMostWantedOf, Measures, TellsKinds, TellsMerged}
-pub use Rattle.tlsf_held.specs.MergedLines.{AddsMerged}
+pub use Rattle.tlsf_held.specs.Loans.{inventory_of, with_len, others, with_loan, account_of, Account, accounted, wanted_in, with_resized, with_taken, IsMostWanted, WantAtMost, freed_by, no_loans, wanted_with}
+pub use Rattle.tlsf_held.specs.Measures.{AreLeastBounds, IsRunOf, EachServed, HeldKindsSuffice, HeldPoolsSuffice, IsServed, HeldWordsSuffice, IsMostWantedOf, Measures, TellsKinds, TellsMerged}
 pub use Rattle.tlsf_held.specs.Merges.{heaps_of, row_words, band_of, AreMerged, IsLeastMerge, IsMergedTable, IsBandRow, is_between, no_region, rows_words, starts_at}
 pub use Rattle.tlsf_held.specs.RowTallies.{table_of, RowAccount, first_few, no_rows, row_accounted, with_lengths, rows_told, used_rows, rows_asked, rows_left}
 pub use Rattle.tlsf_held.specs.Rows.{IsWithin, no_row, row_in, row_of, row_count, used, with_one, joined}

@@ -26,6 +26,18 @@ module _ (cost : ℕ → ℕ → ℕ) (count : ℕ) where
   abbrev Best : ℕ → ℕ → Split → Type 0
   Best heaps at split = IsBest cost count heaps at split
 
+  -- a split is also the best of others, where it has no more words than each of these
+  also : {few heaps at : ℕ} {P Q : List ℕ → Type 0} {split : Split} → IsBestAmong cost count few at P split → few ≤ heaps
+      → ((lens : List ℕ) → Divide count at lens → Q lens → split.words ≤ words_by cost at lens) → IsBestAmong cost count heaps at Q split
+  also best more least = record {
+    divide = best.divide;
+    words = best.words;
+    least = least;
+    few = omega (arith, best.few, more);
+    room = best.room;
+    small = best.small;
+  }
+
   module _ (heaps at n : ℕ) (rest : Split) (some : 0 < n) (within : at + n ≤ count) (few : heaps ≤ 7) (best : Best heaps (at + n) rest) where
     least_just : (lens : List ℕ) → Divide count at lens → HasJust heaps n lens → rest.words + cost at (at + n) ≤ words_by cost at lens
     least_just [] divide just = absurd just
@@ -60,22 +72,14 @@ module _ (cost : ℕ → ℕ → ℕ) (count : ℕ) where
   module _ (heaps at : ℕ) (P Q R : List ℕ → Type 0) (either : (lens : List ℕ) → R lens → P lens ⊎ Q lens) where
     chosen : (a b : Split) (t : Bool) → (t ≡ true → b.words ≤ a.words) → (t ≡ false → a.words ≤ b.words) → IsBestAmong cost count heaps at P a → IsBestAmong cost count heaps at Q b
         → IsBestAmong cost count heaps at R (cond t b a)
-    chosen a b true less more one other = record {
-      divide = other.divide;
-      words = other.words;
-      least = λ lens divide sought. elim (either lens sought) [ inl p ↦ omega (arith, less refl, one.least lens divide p) | inr q ↦ other.least lens divide q ];
-      few = other.few;
-      room = other.room;
-      small = other.small;
-    }
-    chosen a b false less more one other = record {
-      divide = one.divide;
-      words = one.words;
-      least = λ lens divide sought. elim (either lens sought) [ inl p ↦ one.least lens divide p | inr q ↦ omega (arith, more refl, other.least lens divide q) ];
-      few = one.few;
-      room = one.room;
-      small = one.small;
-    }
+    chosen a b true less more one other = also other (omega arith) (λ lens divide sought. elim (either lens sought) [
+      | inl p ↦ omega (arith, less refl, one.least lens divide p)
+      | inr q ↦ other.least lens divide q
+    ])
+    chosen a b false less more one other = also one (omega arith) (λ lens divide sought. elim (either lens sought) [
+      | inl p ↦ one.least lens divide p
+      | inr q ↦ omega (arith, more refl, other.least lens divide q)
+    ])
 
     cheaper_best : (a b : Split) → IsBestAmong cost count heaps at P a → IsBestAmong cost count heaps at Q b → IsBestAmong cost count heaps at R (cheaper a b)
     cheaper_best a b one other = chosen a b (nat_lt b.words a.words) (λ is. grind (arith, nat_tests)) (λ is. grind (arith, nat_tests)) one other
@@ -100,14 +104,7 @@ module _ (cost : ℕ → ℕ → ℕ) (count : ℕ) where
   all_first heaps at (n ∷ lens) divide few = inr (divide.1, omega (arith, few))
 
   pub first_begun : (heaps at : ℕ) (split : Split) → Best heaps at split → IsBestAmong cost count (heaps + 1) at (HasFirst heaps at at) split
-  first_begun heaps at split best = record {
-    divide = best.divide;
-    words = best.words;
-    least = λ lens divide first. best.least lens divide (none_first heaps at lens divide first);
-    few = omega (arith, best.few);
-    room = best.room;
-    small = best.small;
-  }
+  first_begun heaps at split best = also best (omega arith) (λ lens divide first. best.least lens divide (none_first heaps at lens divide first))
 
   pub first_more : (heaps at last words : ℕ) (split rest : Split) → at ≤ last → last < count → heaps ≤ 7 → IsBestAmong cost count (heaps + 1) at (HasFirst heaps at last) split
       → Best heaps (last + 1) rest → words ≡ cost at (last + 1) → cost at (last + 1) ≤ 2 ^ 32
@@ -117,14 +114,7 @@ module _ (cost : ℕ → ℕ → ℕ) (count : ℕ) where
       so_far (best_with heaps at (last + 1) words rest (omega (arith, from)) (omega (arith, inside)) few best is small)
 
   pub first_done : (heaps at : ℕ) (split : Split) → IsBestAmong cost count (heaps + 1) at (HasFirst heaps at count) split → Best (heaps + 1) at split
-  first_done heaps at split best = record {
-    divide = best.divide;
-    words = best.words;
-    least = λ lens divide few. best.least lens divide (all_first heaps at lens divide few);
-    few = best.few;
-    room = best.room;
-    small = best.small;
-  }
+  first_done heaps at split best = also best (omega arith) (λ lens divide few. best.least lens divide (all_first heaps at lens divide few))
 
   -- ---- one part
 
@@ -146,14 +136,7 @@ module _ (cost : ℕ → ℕ → ℕ) (count : ℕ) where
   pub one_best : (at words : ℕ) → at < count → words ≡ cost at count → cost at count ≤ 2 ^ 32 → Best 1 at (with_first nothing (count - at) words)
   one_best at words before is small =
       let best = best_with 0 at count words nothing before (omega arith) (omega arith) (nothing_best 0) is small in
-      record {
-        divide = best.divide;
-        words = best.words;
-        least = λ lens divide few. best.least lens divide (just_one at lens before divide few);
-        few = best.few;
-        room = best.room;
-        small = best.small;
-      }
+      also best (omega arith) (λ lens divide few. best.least lens divide (just_one at lens before divide few))
 
   -- ---- a row of the best
 
@@ -162,14 +145,7 @@ module _ (cost : ℕ → ℕ → ℕ) (count : ℕ) where
   no_more heaps (n ∷ lens) divide = absurd (omega (arith, divide.0, divide.1))
 
   more_at_end : (heaps : ℕ) (split : Split) → Best heaps count split → Best (heaps + 1) count split
-  more_at_end heaps split best = record {
-    divide = best.divide;
-    words = best.words;
-    least = λ lens divide few. best.least lens divide (no_more heaps lens divide);
-    few = omega (arith, best.few);
-    room = best.room;
-    small = best.small;
-  }
+  more_at_end heaps split best = also best (omega arith) (λ lens divide few. best.least lens divide (no_more heaps lens divide))
 
   pub row_done : (heaps at : ℕ) (row : List Split) → count ≤ at → ((k : ℕ) → k < at → Best (heaps + 1) k (get_or row k no_split))
       → ((k : ℕ) → at ≤ k → k ≤ count → Best heaps k (get_or row k no_split)) → AreBest cost count (heaps + 1) row

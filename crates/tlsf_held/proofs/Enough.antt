@@ -1,19 +1,11 @@
 -- The words for mixed sizes are enough.
-use Rattle.tlsf_held.proofs.Common.{◌≡◌, ◌==◌, ℕ, ◌≤◌, ◌<◌, Bool, true, false, true≢false, cond, List, [], ◌∷◌, length, map, Option, Some, Result, Ok, Err, inl, inr, sym, subst, arith, AllByRecursion, cases_eq, nat_tests, get_or-map-range_with_len, length-map-range_with_len, most_words, HeapState, want, Call, Got, answered, opened, read_of, run, Refusal, mixed_region, mixed_words, AreModest, HasRoomFor, Event, answers_on, calls_on, handed_on, World, heap_in, replies, no_heap, events_of, level_in, yard_of, held_region, HeldWordsSuffice}
+use Rattle.tlsf_held.proofs.Common.{◌≡◌, ◌==◌, ℕ, ◌<◌, Bool, true, false, true≢false, cond, List, [], ◌∷◌, length, map, Option, Some, Result, Ok, Err, inl, inr, sym, subst, arith, AllByRecursion, cases_eq, nat_tests, get_or-map-range_with_len, length-map-range_with_len, HeapState, Call, Got, answered, opened, read_of, run, Refusal, mixed_region, AreModest, HasRoomFor, Event, answers_on, calls_on, handed_on, World, heap_in, replies, no_heap, events_of, level_in, yard_of, held_region, HeldWordsSuffice}
 use Rattle.tlsf_heap.specs.Calls.{Allocate, Release, Write, Resize, Read}
 use Rattle.tlsf_pool.specs.laws.Held.{held_after}
 use Rattle.tlsf_pool.proofs.lemmas.laws.ModestCalls.{region_is}
 use Rattle.tlsf_crew.proofs.lemmas.histories.AllEntries.{replies_tell}
 use Rattle.tlsf_yard_laws.proofs.Told.{never_refuses}
 use Rattle.tlsf_held.proofs.Measured.{is_level}
-
--- a region that has the words is one for which the law speaks
-record HasWords (sli most len words : ℕ) : Type 0 where
-  class : want len ≤ most_words sli
-  enough : mixed_words sli most len ≤ words
-
-has_words : (sli most len words : ℕ) → mixed_region sli most len ≡ Some words → HasWords sli most len words
-has_words sli most len words is = let region = (region_is sli most len words).0 is in record { class = region.0.0; enough = omega (arith, region.1) }
 
 -- ---- where no block is asked for
 
@@ -61,8 +53,8 @@ words_suffice trace j most len words region inside bounds is upto =
       | inl none ↦ none_refused (yard_of trace.header) (events_of trace) j len (omega (arith, count, inside)) ((bounds 0 len).1 (omega (arith, none), omega arith))
       | inr some ↦
           let no : (most == 0) ≡ false = grind (arith, nat_tests) in
-          let has = has_words sli most len words (by_most (most == 0) (mixed_region sli most len) words is no) in
+          let has = (region_is sli most len words).0 (by_most (most == 0) (mixed_region sli most len) words is no) in
           never_refuses sli (is_level trace.header.version) (yard_of trace.header) (events_of trace) j trace.header.words 0 most len
           (record { within = omega (arith, count, inside); new = get_or-map-range_with_len heaps 0 trace.header.workers j j no_heap inside (omega arith) })
-          region has.class (omega (arith, has.enough, upto)) modest
+          region has.0.0 (omega (arith, has.1, upto)) modest
     ]

@@ -7,7 +7,7 @@ use Rattle.tlsf_pool.specs.declared.kind.Kind.{Kind}
 use Rattle.tlsf_pool.proofs.lemmas.laws.PlannedCalls.{kinds_suffice}
 use Rattle.tlsf_crew.proofs.lemmas.histories.AllEntries.{replies_tell}
 use Rattle.tlsf_yard_laws.proofs.Told.{noted_same}
-use Rattle.tlsf_held.proofs.LeastRows.{both_within, cons_within, one_within, same_within, within_trans}
+use Rattle.tlsf_held.proofs.LeastRows.{cons_within, fewer_within, same_within, within_trans}
 use Rattle.tlsf_held.proofs.Measured.{is_level}
 
 -- ---- longer blocks are of no lower row
@@ -111,15 +111,6 @@ module _ (row : ℕ → ℕ) (rises : (a b : ℕ) → a ≤ b → row a ≤ row 
   behind_row at to [] between none = tt
   behind_row at to (len ∷ lens) between none = let ne = none.0 in ((omega (arith, ne, between.0.0), between.0.1), behind_row at to lens between.1 none.1)
 
-  -- fewer lengths come to no more
-  kept_of : (b : Bool) (at len : ℕ) (lens rest : List ℕ) → IsWithin (row_in row at rest) (row_in row at lens) → IsWithin (row_in row at (cond b (len ∷ rest) rest)) (row_in row at (len ∷ lens))
-  kept_of true at len lens rest within = both_within row at (row len == at) (row_in row at rest) (row_in row at lens) len within
-  kept_of false at len lens rest within = one_within row at (row len == at) (row_in row at rest) (row_in row at lens) len within
-
-  fewer_of : (p : ℕ → Bool) (at : ℕ) (lens : List ℕ) → IsWithin (row_in row at (filter p lens)) (row_in row at lens)
-  fewer_of p at [] = same_within (row_in row at [])
-  fewer_of p at (len ∷ lens) = kept_of (p len) at len lens (filter p lens) (fewer_of p at lens)
-
   -- ---- the kinds of the rows
 
   by_used : (b : Bool) (first : Row) (rest : List Row) (lens : List ℕ) → (b ≡ true → AreOfKinds (kinds_of (first ∷ rest)) lens) → (b ≡ false → AreOfKinds (kinds_of rest) lens)
@@ -139,7 +130,7 @@ module _ (row : ℕ → ℕ) (rises : (a b : ℕ) → a ≤ b → row a ≤ row 
         (λ some. let its : row (all at).longest ≡ at = own at here (ltb-true 0 (all at).most some) in (
           le_trans (counted at to (all at).longest lens its between) (within at here).0,
           of_kinds (at + 1) k (filter (λ n. nat_lt (all at).longest n) lens) rest
-              (λ i inside. within_trans _ _ _ (fewer_of (λ n. nat_lt (all at).longest n) i lens) (within i inside))
+              (λ i inside. within_trans _ _ _ (fewer_within row i (λ n. nat_lt (all at).longest n) lens) (within i inside))
               (above_row at to (all at).longest lens between (upto at (all at).longest lens (within at here).1)),
         ))
         (λ none. of_kinds (at + 1) k lens rest within

@@ -1,9 +1,8 @@
 -- The least words of heaps, found by replays.
-use Rattle.tlsf_held.proofs.Common.{◌≡◌, ℕ, ◌<◌, ◌≤◌, List, Option, Some, None, IfSome, ap, ap₂, ◌∙◌, subst, sym, arith, lit≤, length-map-range_with_len, Name, Entry, held_region, with_least, with_words, AreLeastWords, IsScriptBut, account_of, IsMostWantedOf, tally_of, events_of, Trace, most_words_of, Header, level_in, run_of, yard_of}
+use Rattle.tlsf_held.proofs.Common.{IsRunOf, ◌≡◌, ℕ, ◌<◌, ◌≤◌, List, Option, Some, None, IfSome, ap, ap₂, ◌∙◌, subst, sym, arith, lit≤, length-map-range_with_len, Name, Entry, held_region, with_least, with_words, AreLeastWords, IsScriptBut, account_of, IsMostWantedOf, tally_of, events_of, Trace, most_words_of, Header, level_in, run_of, yard_of}
 use Rattle.std.specs.Option.{unwrap_or}
 use Rattle.tlsf_heap.specs.Calls as heap
 use Rattle.tlsf_held.specs.Least.{IsLeastRow}
-use Rattle.tlsf_held.specs.Runs.{IsRunOf}
 use Rattle.tlsf_lines.specs.ScriptSoFar.{IsScript}
 use Rattle.tlsf_lines.specs.declared.script.Script.{Script}
 use Rattle.tlsf_lines.specs.declared.version.Version.{Version}

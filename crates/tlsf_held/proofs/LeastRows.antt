@@ -1,5 +1,5 @@
 -- The rows that calls come to are the least that they keep within.
-use Rattle.tlsf_held.proofs.Common.{◌≡◌, ◌≢◌, ◌⊎◌, ◌==◌, ℕ, ◌<◌, Bool, true, false, cond, List, [], ◌∷◌, length, get_or, max, replicate, Ok, Err, inl, inr, refl, sym, ap, ap₂, ◌∙◌, subst, arith, filter, not, cases_eq, cases_lt, eqb-true, nat_tests, get_or-set_other, length-set, Call, Answer, Allocated, Released, Written, Got, Name, is_same, Inventory, inventory_after, lengths, with_length, lengths_with, IsLeastRow, IsOfRow, KeepWithin, with_lengths, joined, no_row, row_in, with_one, IsWithin, Row}
+use Rattle.tlsf_held.proofs.Common.{◌≡◌, ◌≢◌, ◌⊎◌, ◌==◌, ℕ, ◌<◌, Bool, true, false, cond, List, [], ◌∷◌, length, get_or, max, replicate, Ok, inl, inr, refl, sym, ap, ap₂, ◌∙◌, subst, arith, filter, not, cases_eq, cases_lt, eqb-true, nat_tests, get_or-set_other, length-set, Call, Answer, Allocated, Released, Name, is_same, Inventory, inventory_after, lengths, with_length, lengths_with, IsLeastRow, IsOfRow, KeepWithin, with_lengths, joined, no_row, row_in, with_one, IsWithin, Row}
 use Rattle.std.proofs.lemmas.Grind.{get_or-set_at}
 use Rattle.std.proofs.lemmas.List.{get_or-replicate, length-replicate}
 use Rattle.tlsf_heap.specs.Calls.{Allocate, Release, Write, Resize, Read, Resized}
@@ -32,10 +32,8 @@ module _ (row : ℕ → ℕ) where
 
   after_whole : (rows : List Row) (call : Call) (answer : Answer) (inventory behind : Inventory) → length (rows_after row rows call answer inventory behind) ≡ length rows
   after_whole rows (Allocate len) answer inventory behind = noted_whole rows len (len ∷ lengths inventory)
-  after_whole rows (Release name) answer inventory behind = refl
-  after_whole rows (Write name from bytes) answer inventory behind = refl
   after_whole rows (Resize name len) answer inventory behind = behind_whole rows len answer behind
-  after_whole rows (Read name from n) answer inventory behind = refl
+  after_whole rows call answer inventory behind = refl
 
   pub all_whole : (rows : List Row) (inventory : Inventory) (calls : List Call) (answers : List Answer) → length (rows_after_all row rows inventory calls answers) ≡ length rows
   all_whole rows inventory [] answers = refl
@@ -57,6 +55,15 @@ module _ (row : ℕ → ℕ) (at : ℕ) where
   pub both_within : (test : Bool) (r s : Row) (len : ℕ) → IsWithin r s → IsWithin (cond test (with_one r len) r) (cond test (with_one s len) s)
   both_within true r s len within = (omega (arith, within.0), omega (arith, within.1))
   both_within false r s len within = within
+
+  -- fewer lengths come to no more
+  pub fewer_within : (p : ℕ → Bool) (lens : List ℕ) → IsWithin (row_in row at (filter p lens)) (row_in row at lens)
+  fewer_within p [] = same_within (row_in row at [])
+  fewer_within p (len ∷ lens) = by (p len) (fewer_within p lens)
+    where
+      by : (b : Bool) → IsWithin (row_in row at (filter p lens)) (row_in row at lens) → IsWithin (row_in row at (cond b (len ∷ filter p lens) (filter p lens))) (row_in row at (len ∷ lens))
+      by true within = both_within (row len == at) _ _ len within
+      by false within = one_within (row len == at) _ _ len within
 
   kept_within : (test : Bool) (entry : Name × ℕ) (inventory rest : Inventory) → IsWithin (row_in row at (lengths rest)) (row_in row at (lengths inventory))
       → IsWithin (row_in row at (lengths (cond test (entry ∷ rest) rest))) (row_in row at (entry.1 ∷ lengths inventory))
@@ -158,10 +165,8 @@ module _ (row : ℕ → ℕ) (at : ℕ) where
   own_after : (rows : List Row) (call : Call) (answer : Answer) (inventory behind : Inventory) → at < length rows → HasOwn (get_or rows at no_row)
       → HasOwn (get_or (rows_after row rows call answer inventory behind) at no_row)
   own_after rows (Allocate len) answer inventory behind inside own = own_raised rows len (len ∷ lengths inventory) inside own
-  own_after rows (Release name) answer inventory behind inside own = own
-  own_after rows (Write name from bytes) answer inventory behind inside own = own
   own_after rows (Resize name len) answer inventory behind inside own = own_behind rows len answer behind inside own
-  own_after rows (Read name from n) answer inventory behind inside own = own
+  own_after rows call answer inventory behind inside own = own
 
   own_all : (rows : List Row) (inventory : Inventory) (calls : List Call) (answers : List Answer) → at < length rows → HasOwn (get_or rows at no_row)
       → HasOwn (get_or (rows_after_all row rows inventory calls answers) at no_row)
@@ -212,9 +217,6 @@ module _ (row : ℕ → ℕ) (at : ℕ) where
     }
 
     resizing : (name : Name) (len : ℕ) (answer : Answer) → let behind = inventory_after inventory (Resize name len) answer in IsStep rows (rows_behind row rows len answer behind) inventory behind (Resize name len)
-    resizing name len (Allocated r) = stays inventory (Resize name len) refl (same_within (row_in row at (lengths inventory)))
-    resizing name len (Released r) = stays inventory (Resize name len) refl (same_within (row_in row at (lengths inventory)))
-    resizing name len (Written r) = stays inventory (Resize name len) refl (same_within (row_in row at (lengths inventory)))
     resizing name len (Resized (Ok done)) =
         let behind = with_length inventory name len in
         let raised = raising rows len (lengths behind) inside (λ ne. within_trans _ _ _ (resized_within name len inventory ne) held) in
@@ -225,8 +227,7 @@ module _ (row : ℕ → ℕ) (at : ℕ) where
           rises = raised.rises;
           least = λ bound old asked left. raised.least bound old left;
         }
-    resizing name len (Resized (Err why)) = stays inventory (Resize name len) refl (same_within (row_in row at (lengths inventory)))
-    resizing name len (Got r) = stays inventory (Resize name len) refl (same_within (row_in row at (lengths inventory)))
+    resizing name len answer = stays inventory (Resize name len) refl (same_within (row_in row at (lengths inventory)))
 
     step : (call : Call) (answer : Answer) → let behind = inventory_after inventory call answer in IsStep rows (rows_after row rows call answer inventory behind) inventory behind call
     step (Allocate len) answer =

@@ -1,9 +1,10 @@
 -- The lemmas of this crate, a line a file.
 --   Common: the names that most proofs cite, passed on from one place
 --   Lent: loans as an inventory
+--   Entries: what entries tell one after the other, by the calls on the heap
 --   LeastBounds: what is tallied is the least bounds of the calls that the entries tell
+--   RowEntries: what is accounted and told of rows, by the calls on the heap
 --   MostWanted: what is accounted is the most words that they want at once
---   RowEntries: what is told of rows, by the calls on the heap
 --   LeastRows: it is the least that the calls keep within
 --   FirstFew: the first list of rows that is short enough
 --   TablesTold: it is the table that they keep to
@@ -20,9 +21,10 @@
 --   LeastFound: the least words, found by replays
 mod Common
 pub mod Lent
+pub mod Entries
 pub mod LeastBounds
-pub mod MostWanted
 pub mod RowEntries
+pub mod MostWanted
 pub mod LeastRows
 pub mod FirstFew
 pub mod TablesTold

@@ -1,5 +1,5 @@
 -- The tales of a run's entries are the requests of the trace.
-use Rattle.tlsf_held.proofs.Common.{◌≡◌, ℕ, ◌+◌, ◌<◌, ◌++◌, List, [], Option, length, vec_len, ap, ap₂, sym, ◌∙◌, subst, arith, length-map-range_with_len, Name, Entry, Replayed, events_of, Trace, level_of, Header, IsLevel, level_in, run_at, run_of, yard_of, held_text, kinds_text, account_of, Measures, TellsKinds, TellsMerged, AddsMerged, table_of, tally_of}
+use Rattle.tlsf_held.proofs.Common.{IsRunOf, ◌≡◌, ℕ, ◌+◌, ◌<◌, ◌++◌, List, [], Option, length, vec_len, ap, sym, ◌∙◌, subst, arith, length-map-range_with_len, Name, Entry, Replayed, events_of, Trace, level_of, Header, IsLevel, level_in, run_at, run_of, yard_of, held_text, kinds_text, account_of, Measures, TellsKinds, TellsMerged, AddsMerged, table_of, tally_of}
 use Rattle.tlsf_heap.specs.Calls as heap
 use Rattle.tlsf_lines.specs.ScriptSoFar.{IsScript}
 use Rattle.tlsf_lines.specs.declared.script.Script.{Script}
@@ -10,7 +10,6 @@ use Rattle.tlsf_class.proofs.TwoLevels.{level_4, level_5}
 use Rattle.tlsf_trace.specs.Players.{PlaysOn}
 use Rattle.tlsf_trace.specs.declared.player.Player.{Player}
 use Rattle.tlsf_trace.proofs.Onward.{ends, nothing_told}
-use Rattle.tlsf_held.specs.Runs.{IsRunOf}
 use Rattle.tlsf_held.proofs.LeastBounds.{tally_bounds}
 use Rattle.tlsf_held.proofs.MergesTold.{merged_is}
 use Rattle.tlsf_held.proofs.MostWanted.{account_bounds}
@@ -41,16 +40,13 @@ tallies_measure trace sli header entries made text level_is header_is is text_is
     let run = run_of trace in
     let level = level_in trace.header in
     let count = length-map-range_with_len (λ (i : ℕ). heap.opened i trace.header.words 0) 0 trace.header.workers in
-    let lines = λ (n : ℕ) (h : Header) (m : List (Option Name)) (es : List Entry).
-    held_text n h.words (λ j. (tally_of j es).most) (λ j. (tally_of j es).longest) (λ j. (account_of j m es).most) h.workers in
     record {
       most = λ j. (tally_of j run.entries).most;
       len = λ j. (tally_of j run.entries).longest;
       wanted = λ j. (account_of j run.made run.entries).most;
       bounds = λ j inside. tally_bounds (yard_of {sli = level} trace.header) (events_of trace) j (omega (arith, count, inside));
       words_wanted = λ j inside. account_bounds (yard_of {sli = level} trace.header) (events_of trace) j (omega (arith, count, inside));
-      written = text_is ∙ (ap₂ (λ (n : ℕ) (h : Header). lines n h made entries) (sym level_is) header_is
-          ∙ ap₂ (λ (m : List (Option Name)) (es : List Entry). lines level trace.header m es) is.0 is.1);
+      written = rw (is.0, is.1, header_is, ← level_is) at text_is;
     }
 
 -- and so are those of its tables
@@ -61,12 +57,10 @@ tables_told trace sli header entries made text level_is header_is is text_is =
     let run = run_of trace in
     let level = level_in trace.header in
     let count = length-map-range_with_len (λ (i : ℕ). heap.opened i trace.header.words 0) 0 trace.header.workers in
-    let lines = λ (n : ℕ) (h : Header) (m : List (Option Name)) (es : List Entry). kinds_text n (λ j. table_of n j m es) h.workers in
     record {
       tables = λ j. table_of level j run.made run.entries;
       each = λ j inside. table_is (is_level trace.header.version) (yard_of {sli = level} trace.header) (events_of trace) j (omega (arith, count, inside));
-      written = text_is ∙ (ap₂ (λ (n : ℕ) (h : Header). lines n h made entries) (sym level_is) header_is
-          ∙ ap₂ (λ (m : List (Option Name)) (es : List Entry). lines level trace.header m es) is.0 is.1);
+      written = rw (is.0, is.1, header_is, ← level_is) at text_is;
     }
 
 -- and of its tables merged
@@ -77,10 +71,7 @@ merged_told trace sli heaps header entries made text level_is header_is is adds 
     let run = run_of trace in
     let level = level_in trace.header in
     let count = length-map-range_with_len (λ (i : ℕ). heap.opened i trace.header.words 0) 0 trace.header.workers in
-    let told = subst (λ (n : ℕ). AddsMerged n heaps trace.header.workers run.made run.entries [] text) (sym level_is)
-    (subst (λ (h : Header). AddsMerged sli heaps h.workers run.made run.entries [] text) header_is
-    (subst (λ (m : List (Option Name)). AddsMerged sli heaps header.workers m run.entries [] text) is.0
-    (subst (λ (es : List Entry). AddsMerged sli heaps header.workers made es [] text) is.1 adds))) in
+    let told = rw (is.0, is.1, header_is, ← level_is) at adds in
     record {
       tables = told.tables;
       each = λ j inside. merged_is (is_level trace.header.version) (yard_of {sli = level} trace.header) (events_of trace) j (omega (arith, count, inside)) heaps (told.tables j) (told.each j inside);

@@ -3,7 +3,7 @@ use Rattle.tlsf_held.proofs.Common.{◌≡◌, ◌≢◌, ◌==◌, ℕ, zero, s
 use Rattle.std.specs.Prelude.{IsSomeAnd, ◌&&◌}
 use Rattle.std.proofs.Common.{length-append}
 use Rattle.std.proofs.lemmas.List.{get_or-append-add, get_or_append_left}
-use Rattle.tlsf_heap.specs.Calls.{Allocate, Release, Write, Resize, Read}
+use Rattle.tlsf_heap.specs.Calls.{Allocate}
 use Rattle.tlsf_pool.specs.declared.kind.Kind.{Kind}
 use Rattle.tlsf_pool.specs.pools.Parts.{ArePools, PoolsState, held_by, held_in, no_part, part_at, part_of, rows_before, rows_in, table_of}
 use Rattle.tlsf_pool.specs.pools.Tables.{HasPlace, IsTabled, TableState, held_of, lengths_in, most_at}
@@ -13,7 +13,7 @@ use Rattle.tlsf_pool.proofs.lemmas.pools.Heaps.{part_has}
 use Rattle.tlsf_pool.proofs.lemmas.pools.RowTotals.{HasOneMore, fit_less, held_length, place, row_is, row_within, this_row}
 use Rattle.tlsf_pool.proofs.lemmas.pools.WholeTable.{no_whole_row, whole_row}
 use Rattle.tlsf_held.proofs.KindsEnough.{row_below, row_rises}
-use Rattle.tlsf_held.proofs.LeastRows.{both_within, cons_within, one_within, same_within, within_trans}
+use Rattle.tlsf_held.proofs.LeastRows.{cons_within, fewer_within, same_within, within_trans}
 use Rattle.tlsf_held.proofs.Measured.{is_level}
 
 -- ---- the lengths that count for a table's rows
@@ -102,15 +102,6 @@ band_one : (from to len : ℕ) → from ≤ len → len < to → (band_of from t
 band_one from to len low high = rw (le-leb from len low, lt-ltb len to high) refl
 
 module _ (row : ℕ → ℕ) (at : ℕ) where
-  -- fewer lengths come to no more
-  fewer : (p : ℕ → Bool) (lens : List ℕ) → IsWithin (row_in row at (filter p lens)) (row_in row at lens)
-  fewer p [] = same_within (row_in row at [])
-  fewer p (len ∷ lens) = by (p len) (fewer p lens)
-    where
-      by : (b : Bool) → IsWithin (row_in row at (filter p lens)) (row_in row at lens) → IsWithin (row_in row at (cond b (len ∷ filter p lens) (filter p lens))) (row_in row at (len ∷ lens))
-      by true within = both_within row at (row len == at) _ _ len within
-      by false within = one_within row at (row len == at) _ _ len within
-
   -- what is within one bound at each moment is within another
   keep_map : (a b : Row) → ((lens : List ℕ) → IsWithin (row_in row at lens) a → IsWithin (row_in row at lens) b) → (inventory : Inventory) (calls : List Call) (answers : List Answer) → KeepWithin row at a inventory calls answers → KeepWithin row at b inventory calls answers
   keep_map a b more inventory [] answers kept = more (lengths inventory) kept
@@ -206,7 +197,7 @@ module _ (calls : List Call) (answers : List Answer) (table : List Row) where
       let within = banded from to row merged.2 in (
         omega (arith, counted from to above row short held (lows from (end_of table) held between), within.0),
         of_merged (at + n) lens rows merged.3 (filter (λ n. nat_lt row.longest n) held)
-            (λ f t r is. within_trans _ _ _ (fewer (band_of f t) 1 (λ n. nat_lt row.longest n) held) (banded f t r is))
+            (λ f t r is. within_trans _ _ _ (fewer_within (band_of f t) 1 (λ n. nat_lt row.longest n) held) (banded f t r is))
             (rest_after from to above row short (end_of table) held within.1 between),
       )
 
@@ -221,10 +212,7 @@ module _ (calls : List Call) (answers : List Answer) (table : List Row) where
 
     one_planned : (inventory : Inventory) (call : Call) (answer : Answer) (cs : List Call) (told : List Answer) → Bounded inventory (call ∷ cs) (answer ∷ told) → AllByRecursion (λ len. len < end_of table) (lengths_with inventory call) → IsPlanned (kinds_of rows) inventory call
     one_planned inventory (Allocate n) answer cs told bounded inside = of_merged 0 lens rows merged (n ∷ lengths inventory) (λ from to row is. (bounded from to row is).0) (from_start (n ∷ lengths inventory) inside)
-    one_planned inventory (Release name) answer cs told bounded inside = tt
-    one_planned inventory (Write name at bytes) answer cs told bounded inside = tt
-    one_planned inventory (Resize name n) answer cs told bounded inside = tt
-    one_planned inventory (Read name at n) answer cs told bounded inside = tt
+    one_planned inventory call answer cs told bounded inside = tt
 
 module _ (row : ℕ → ℕ) (rises : (a b : ℕ) → a ≤ b → row a ≤ row b) (all : ℕ → Row) (to : ℕ) (own : Own row rises all (0 + to)) (below : (len : ℕ) → row len < to) where
   abbrev whole : List Row
@@ -317,10 +305,7 @@ module _ (sli : ℕ) (p : PoolsState) (len : ℕ) (lens : List ℕ) (are : ArePo
 one_served : (kinds : List Kind) (inventory : Inventory) (call : Call) → IsPlanned kinds inventory call → IsServed kinds inventory call
 one_served kinds inventory (Allocate len) planned = λ sli p are same held.
     served sli p len (lengths inventory) are (held ∙ ap (λ (k : List Kind). held_of k (lengths inventory)) (sym same)) (subst (λ (k : List Kind). AreOfKinds k (len ∷ lengths inventory)) (sym same) planned)
-one_served kinds inventory (Release name) planned = tt
-one_served kinds inventory (Write name at bytes) planned = tt
-one_served kinds inventory (Resize name n) planned = tt
-one_served kinds inventory (Read name at n) planned = tt
+one_served kinds inventory call planned = tt
 
 all_served : (kinds : List Kind) (inventory : Inventory) (calls : List Call) (answers : List Answer) → ArePlanned kinds inventory calls answers → EachServed kinds inventory calls answers
 all_served kinds inventory [] answers planned = tt

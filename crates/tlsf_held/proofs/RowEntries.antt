@@ -1,12 +1,26 @@
--- The rows that the entries of a run tell, by the calls on the heap and its answers.
-use Rattle.tlsf_held.proofs.Common.{◌≡◌, ◌==◌, ℕ, ◌<◌, true, false, true≢false, List, [], ◌∷◌, All, fold, Option, Some, None, Ok, Err, inl, inr, refl, sym, ap, ◌∙◌, arith, is_some, option_map, cons_option, cases_eq, nat_tests, All-head, All-tail, Name, Refusal, Inventory, inventory_after, lengths, Allocate, Release, Write, Read, Resize, Take, Drain, Heap, Entry, Reply, Made, Resized, Refused, answer_told, answers_on, call_on_own, calls_on, entries_of, name_of, accounted, Account, row_accounted, rows_asked, rows_left, with_lengths, RowAccount, Row}
+-- The words that the entries of a run account for and the rows that they tell, by the calls on the heap and its answers.
+use Rattle.tlsf_held.proofs.Common.{◌≡◌, ◌+◌, ◌==◌, ℕ, ◌<◌, Bool, true, false, true≢false, cond, List, [], ◌∷◌, All, fold, max, Option, Some, None, Result, Ok, Err, refl, sym, ap, ◌∙◌, is_ok, is_some, option_map, want, Name, Refusal, Inventory, inventory_after, lengths, with_length, Allocate, Release, Write, Read, Resize, Take, Drain, Heap, Entry, Reply, Made, Freed, Resized, Took, Refused, answer_told, answers_on, call_on_own, calls_on, entries_of, meant, name_on_heap, name_of, accounted, wanted_in, with_resized, with_taken, Account, row_accounted, with_lengths, RowAccount, Row}
 use Rattle.tlsf_heap.specs.Calls as heap
+use Rattle.tlsf_calls.specs.Bytes.{bytes_of}
 use Rattle.tlsf_calls.specs.declared.call.Call.{Call}
 use Rattle.tlsf_crew.proofs.lemmas.histories.JoinedEntries.{HasItsAnswer}
-use Rattle.tlsf_held.proofs.LeastBounds.{one_told}
-use Rattle.tlsf_held.proofs.MostWanted.{account_with, entry_accounted, inventory_is}
+use Rattle.tlsf_held.proofs.Entries.{after_all, after_one, by_call, entries_told, no_answer, quiet}
 
 -- ---- by the calls on the heap and its answers
+
+-- the most words once a block was resized, or not
+abbrev pub most_resized : Account → Name → ℕ → heap.Answer → ℕ
+most_resized a name len (heap.Resized (Ok done)) = max a.most (wanted_in (with_length a.inventory name len))
+most_resized a name len answer = a.most
+
+abbrev pub most_after : Account → heap.Call → heap.Answer → ℕ
+most_after a (heap.Allocate len) answer = max a.most (want len + wanted_in a.inventory)
+most_after a (heap.Resize name len) answer = most_resized a name len answer
+most_after a call answer = a.most
+
+-- a call more
+abbrev pub account_after : Account → heap.Call → heap.Answer → Account
+account_after a call answer = record { inventory = inventory_after a.inventory call answer; most = most_after a call answer }
 
 -- a block resized, or not
 abbrev pub rows_behind : (ℕ → ℕ) → List Row → ℕ → heap.Answer → Inventory → List Row
@@ -16,10 +30,8 @@ rows_behind row rows len answer inventory = rows
 -- a call more, by what is held before it and after it
 abbrev pub rows_after : (ℕ → ℕ) → List Row → heap.Call → heap.Answer → (before behind : Inventory) → List Row
 rows_after row rows (heap.Allocate len) answer before behind = with_lengths row rows len (len ∷ lengths before)
-rows_after row rows (heap.Release name) answer before behind = rows
-rows_after row rows (heap.Write name at bytes) answer before behind = rows
 rows_after row rows (heap.Resize name len) answer before behind = rows_behind row rows len answer behind
-rows_after row rows (heap.Read name at n) answer before behind = rows
+rows_after row rows call answer before behind = rows
 
 -- and calls in turn
 abbrev pub rows_after_all : (ℕ → ℕ) → List Row → Inventory → List heap.Call → List heap.Answer → List Row
@@ -28,98 +40,92 @@ rows_after_all row rows inventory (call ∷ calls) [] = rows
 rows_after_all row rows inventory (call ∷ calls) (answer ∷ answers) =
     rows_after_all row (rows_after row rows call answer inventory (inventory_after inventory call answer)) (inventory_after inventory call answer) calls answers
 
--- what an entry may tell of a call
-abbrev rows_with : (ℕ → ℕ) → List Row → Option heap.Call → Option heap.Answer → (before behind : Inventory) → List Row
-rows_with row rows None answer before behind = rows
-rows_with row rows (Some call) None before behind = rows
-rows_with row rows (Some call) (Some answer) before behind = rows_after row rows call answer before behind
-
-abbrev inventory_with : Inventory → Option heap.Call → Option heap.Answer → Inventory
-inventory_with inventory None answer = inventory
-inventory_with inventory (Some call) None = inventory
-inventory_with inventory (Some call) (Some answer) = inventory_after inventory call answer
-
-inventory_told : (a : Account) (o : Option heap.Call) (r : Option heap.Answer) → (account_with a o r).inventory ≡ inventory_with a.inventory o r
-inventory_told a None r = refl
-inventory_told a (Some call) None = refl
-inventory_told a (Some call) (Some answer) = inventory_is a call answer
+-- both
+abbrev row_after : (ℕ → ℕ) → RowAccount → heap.Call → heap.Answer → RowAccount
+row_after row told call answer =
+    let next = account_after told.account call answer in record { account = next; rows = rows_after row told.rows call answer told.account.inventory next.inventory }
 
 -- ---- one entry
 
-module _ (row : ℕ → ℕ) (rows : List Row) (before behind : Inventory) where
-  no_answer : (o : Option heap.Call) → rows ≡ rows_with row rows o None before behind
-  no_answer None = refl
-  no_answer (Some call) = refl
+module _ (row : ℕ → ℕ) (made : List (Option Name)) where
+  written : (told : RowAccount) (at : ℕ) (bytes : List ℕ) (name : Name) (answer : heap.Answer) → told ≡ row_after row told (heap.Write name at bytes) answer
+  written told at bytes name (heap.Allocated r) = refl
+  written told at bytes name answer = refl
 
-  of_release : (o : Option Name) (r : Option heap.Answer) → rows ≡ rows_with row rows (option_map heap.Release o) r before behind
-  of_release (Some name) (Some answer) = refl
-  of_release o r = refl
+  read : (told : RowAccount) (at n : ℕ) (name : Name) (answer : heap.Answer) → told ≡ row_after row told (heap.Read name at n) answer
+  read told at n name (heap.Allocated r) = refl
+  read told at n name answer = refl
 
-  of_write : (at : ℕ) (bytes : List ℕ) (o : Option Name) (r : Option heap.Answer) → rows ≡ rows_with row rows (option_map (λ name. heap.Write name at bytes) o) r before behind
-  of_write at bytes (Some name) (Some answer) = refl
-  of_write at bytes o r = refl
+  -- a block is taken back
+  abbrev freed : RowAccount → Option Name → RowAccount
+  freed told o = record { account = with_taken told.account o; rows = told.rows }
 
-  of_read : (at n : ℕ) (o : Option Name) (r : Option heap.Answer) → rows ≡ rows_with row rows (option_map (λ name. heap.Read name at n) o) r before behind
-  of_read at n (Some name) (Some answer) = refl
-  of_read at n o r = refl
+  own_freed : (told : RowAccount) (name : Name) (own : Bool) → is_some (option_map heap.Release (cond own (Some name) None)) ≡ true
+      → freed told (Some name) ≡ after_one (row_after row) told (option_map heap.Release (cond own (Some name) None)) (Some (heap.Released (Ok tt)))
+  own_freed told name true some = refl
+  own_freed told name false some = absurd (true≢false (sym some))
 
-  resized : (len : ℕ) (o : Option Name) → is_some (option_map (λ name. heap.Resize name len) o) ≡ true
-      → with_lengths row rows len (lengths behind) ≡ rows_with row rows (option_map (λ name. heap.Resize name len) o) (Some (heap.Resized (Ok tt))) before behind
-  resized len None some = absurd (true≢false (sym some))
-  resized len (Some name) some = refl
+  of_freed : (told : RowAccount) (at : ℕ) (o : Option Name) → is_some (option_map heap.Release (name_on_heap at o)) ≡ true
+      → freed told o ≡ after_one (row_after row) told (option_map heap.Release (name_on_heap at o)) (Some (heap.Released (Ok tt)))
+  of_freed told at None some = absurd (true≢false (sym some))
+  of_freed told at (Some name) some = own_freed told name (name.heap == at) some
 
-  not_resized : (len : ℕ) (why : Refusal) (o : Option Name) → rows ≡ rows_with row rows (option_map (λ name. heap.Resize name len) o) (Some (heap.Resized (Err why))) before behind
-  not_resized len why None = refl
-  not_resized len why (Some name) = refl
+  of_post : (told : RowAccount) (name : Name) (r : Result (Unit {0}) Refusal) → freed told (cond (is_ok r) (Some name) None) ≡ row_after row told (heap.Release name) (heap.Released r)
+  of_post told name (Ok done) = refl
+  of_post told name (Err why) = refl
+
+  -- and one is resized
+  abbrev longer : RowAccount → ℕ → Option Name → RowAccount
+  longer told len o = let next = with_resized told.account len o in record { account = next; rows = with_lengths row told.rows len (lengths next.inventory) }
+
+  of_resized : (told : RowAccount) (len : ℕ) (o : Option Name) → is_some (option_map (λ name. heap.Resize name len) o) ≡ true
+      → longer told len o ≡ after_one (row_after row) told (option_map (λ name. heap.Resize name len) o) (Some (heap.Resized (Ok tt)))
+  of_resized told len None some = absurd (true≢false (sym some))
+  of_resized told len (Some name) some = refl
 
   -- what is told of an entry that tells an answer of its worker's heap where it tells a call
-  entry_rows : (made : List (Option Name)) (at : ℕ) (call : Call) (reply : Reply) → is_some (call_on_own made at call reply) ≡ is_some (answer_told call reply)
-      → rows_left row (rows_asked row rows call before) call reply behind ≡ rows_with row rows (call_on_own made at call reply) (answer_told call reply) before behind
-  entry_rows made at (Allocate len) (Made name) even = refl
-  entry_rows made at (Allocate len) (Refused (Heap why)) even = refl
-  entry_rows made at (Allocate len) reply even = absurd (true≢false even)
-  entry_rows made at (Release target) reply even = of_release _ (answer_told (Release target) reply)
-  entry_rows made at (Write target from bytes) reply even = of_write from _ _ (answer_told (Write target from bytes) reply)
-  entry_rows made at (Read target from n) reply even = of_read from n _ (answer_told (Read target from n) reply)
-  entry_rows made at (Resize target len) Resized even = resized len (name_of made target) even
-  entry_rows made at (Resize target len) (Refused (Heap why)) even = not_resized len why (name_of made target)
-  entry_rows made at (Resize target len) reply even = no_answer (call_on_own made at (Resize target len) reply)
-  entry_rows made at (Take from) reply even = of_release _ (answer_told (Take from) reply)
-  entry_rows made at (Drain most) reply even = refl
+  entry_rows : (at : ℕ) (told : RowAccount) (call : Call) (reply : Reply) → is_some (call_on_own made at call reply) ≡ is_some (answer_told call reply)
+      → row_accounted row made told call reply ≡ after_one (row_after row) told (call_on_own made at call reply) (answer_told call reply)
+  entry_rows at told (Allocate len) (Made name) even = refl
+  entry_rows at told (Allocate len) (Refused (Heap why)) even = refl
+  entry_rows at told (Allocate len) reply even = absurd (true≢false even)
+  entry_rows at told (Release target) Freed even = of_freed told at (name_of made target) even
+  entry_rows at told (Release target) (Refused (Heap why)) even =
+      by_call (row_after row) told _ heap.Release (name_on_heap at (meant made target (Refused (Heap why)))) (heap.Released (Err why)) even (λ name. refl)
+  entry_rows at told (Release target) reply even = no_answer (row_after row) told (call_on_own made at (Release target) reply)
+  entry_rows at told (Write target from bytes) reply even =
+      quiet (row_after row) told (λ name. heap.Write name from (bytes_of bytes)) (meant made target reply) (answer_told (Write target from bytes) reply) (written told from (bytes_of bytes))
+  entry_rows at told (Read target from n) reply even =
+      quiet (row_after row) told (λ name. heap.Read name from n) (meant made target reply) (answer_told (Read target from n) reply) (read told from n)
+  entry_rows at told (Resize target len) Resized even = of_resized told len (name_of made target) even
+  entry_rows at told (Resize target len) (Refused (Heap why)) even =
+      by_call (row_after row) told _ (λ name. heap.Resize name len) (meant made target (Refused (Heap why))) (heap.Resized (Err why)) even (λ name. refl)
+  entry_rows at told (Resize target len) reply even = no_answer (row_after row) told (call_on_own made at (Resize target len) reply)
+  entry_rows at told (Take from) (Took took) even = of_post told took.name took.answer
+  entry_rows at told (Take from) reply even = refl
+  entry_rows at told (Drain most) reply even = refl
 
--- ---- all entries
+  -- ---- all entries
 
-abbrev with_entry : (ℕ → ℕ) → List (Option Name) → RowAccount → Entry → RowAccount
-with_entry row made told e = row_accounted row made told e.call e.reply
+  rows_only : (told : RowAccount) (calls : List heap.Call) (answers : List heap.Answer)
+      → (after_all (row_after row) told calls answers).rows ≡ rows_after_all row told.rows told.account.inventory calls answers
+  rows_only told [] answers = refl
+  rows_only told (call ∷ calls) [] = refl
+  rows_only told (call ∷ calls) (answer ∷ answers) = rows_only (row_after row told call answer) calls answers
 
-one_more : (row : ℕ → ℕ) (rows : List Row) (inventory : Inventory) (o : Option heap.Call) (r : Option heap.Answer) (calls : List heap.Call) (answers : List heap.Answer) → is_some o ≡ is_some r
-    → rows_after_all row rows inventory (cons_option o calls) (cons_option r answers)
-    ≡ rows_after_all row (rows_with row rows o r inventory (inventory_with inventory o r)) (inventory_with inventory o r) calls answers
-one_more row rows inventory None None calls answers even = refl
-one_more row rows inventory None (Some answer) calls answers even = absurd (true≢false (sym even))
-one_more row rows inventory (Some call) None calls answers even = absurd (true≢false even)
-one_more row rows inventory (Some call) (Some answer) calls answers even = refl
+  pub entries_rowed : (workers j : ℕ) → j < workers → (told : RowAccount) (es : List Entry) → All (HasItsAnswer made workers) es
+      → (fold (λ told e. row_accounted row made told e.call e.reply) told (entries_of j es)).rows ≡ rows_after_all row told.rows told.account.inventory (calls_on j made es) (answers_on j es)
+  entries_rowed workers j inside told es each =
+      ap (λ (t : RowAccount). t.rows) (entries_told (row_after row) made workers j inside (row_accounted row made) entry_rows told es each) ∙ rows_only told (calls_on j made es) (answers_on j es)
 
-module _ (row : ℕ → ℕ) (made : List (Option Name)) (workers j : ℕ) (inside : j < workers) where
-  pub entries_rowed : (told : RowAccount) (es : List Entry) → All (HasItsAnswer made workers) es
-      → (fold (with_entry row made) told (entries_of j es)).rows ≡ rows_after_all row told.rows told.account.inventory (calls_on j made es) (answers_on j es)
-  entries_rowed told [] each = refl
-  entries_rowed told (e ∷ es) each =
-      let rest = All-tail (HasItsAnswer made workers) e es each in
-      elim (cases_eq e.worker j) [
-        | inl is ↦
-            let b : (e.worker == j) ≡ true = grind (arith, nat_tests) in
-            let o = call_on_own made e.worker e.call e.reply in
-            let r = answer_told e.call e.reply in
-            let even : is_some o ≡ is_some r = one_told o r (All-head (HasItsAnswer made workers) e es each (omega arith)) in
-            let next = accounted made told.account e.call e.reply in
-            let inventory : next.inventory ≡ inventory_with told.account.inventory o r =
-            ap (λ (a : Account). a.inventory) (entry_accounted made e.worker told.account e.call e.reply even) ∙ inventory_told told.account o r in
-            rw b (entries_rowed (with_entry row made told e) es rest
-            ∙ (ap (λ (rows : List Row). rows_after_all row rows next.inventory (calls_on j made es) (answers_on j es)) (entry_rows row told.rows told.account.inventory next.inventory made e.worker e.call e.reply even)
-            ∙ (ap (λ (l : Inventory). rows_after_all row (rows_with row told.rows o r told.account.inventory l) l (calls_on j made es) (answers_on j es)) inventory
-            ∙ sym (one_more row told.rows told.account.inventory o r (calls_on j made es) (answers_on j es) even))))
-        | inr ne ↦
-            let b : (e.worker == j) ≡ false = grind (arith, nat_tests) in
-            rw b (entries_rowed told es rest)
-      ]
+-- the account alone
+account_told : (row : ℕ → ℕ) (told : RowAccount) (o : Option heap.Call) (r : Option heap.Answer) → (after_one (row_after row) told o r).account ≡ after_one account_after told.account o r
+account_told row told None r = refl
+account_told row told (Some call) None = refl
+account_told row told (Some call) (Some answer) = refl
+
+pub entry_accounted : (made : List (Option Name)) (at : ℕ) (a : Account) (call : Call) (reply : Reply) → is_some (call_on_own made at call reply) ≡ is_some (answer_told call reply)
+    → accounted made a call reply ≡ after_one account_after a (call_on_own made at call reply) (answer_told call reply)
+entry_accounted made at a call reply even =
+    let told : RowAccount = record { account = a; rows = [] } in
+    ap (λ (t : RowAccount). t.account) (entry_rows (λ n. 0) made at told call reply even) ∙ account_told (λ n. 0) told (call_on_own made at call reply) (answer_told call reply)

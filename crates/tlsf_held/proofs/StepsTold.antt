@@ -46,12 +46,6 @@ module _ (from to : ℕ) where
   abbrev long : List ℕ → ℕ
   long lens = (in_band lens).longest
 
-  after_held : (s : Band) (len h m l : ℕ) → Is s h m l → Is (band_step from to s (Held len)) (h + one (between len)) m (max l (cond (between len) len 0))
-  after_held s len h m l is = by_held (between len) s len h m l is
-
-  after_freed : (s : Band) (len h m l : ℕ) → Is s h m l → Is (band_step from to s (Freed len)) (h - one (between len)) m l
-  after_freed s len h m l is = by_freed (between len) s h m l is
-
   after_reached : (s : Band) (h m l : ℕ) → Is s h m l → Is (band_step from to s Reached) h (max m h) l
   after_reached s h m l is = record { held_is = is.held_is; most_is = ap₂ max is.most_is is.held_is; longest_is = is.longest_is }
 
@@ -77,7 +71,7 @@ module _ (from to : ℕ) where
 
   by_taken : (t : Bool) (s : Band) (entry : Name × ℕ) (rest : Inventory) (m l d : ℕ) → Is s (count (lengths rest) + (one (between entry.1) + d)) m l
       → Is (band_after from to s (cond t (Freed entry.1 ∷ []) [])) (count (lengths (cond (not t) (entry ∷ rest) rest)) + d) m l
-  by_taken true s entry rest m l d is = same_is (after_freed s entry.1 _ m l is) (omega arith) refl refl
+  by_taken true s entry rest m l d is = same_is (by_freed (between entry.1) s _ m l is) (omega arith) refl refl
   by_taken false s entry rest m l d is = let more = count_cons entry.1 (lengths rest) in same_is is (omega (arith, more)) refl refl
 
   all_taken : (name : Name) (inventory : Inventory) (s : Band) (m l d : ℕ) → Is s (count (lengths inventory) + d) m l
@@ -100,8 +94,8 @@ module _ (from to : ℕ) where
   by_moved true s entry len rest m l d upto is =
       let more = count_cons len (lengths rest) in
       let longer = long_cons len (lengths rest) in
-      let freed = after_freed s entry.1 _ m (max l (long (lengths rest))) is in
-      same_is (after_held (band_step from to s (Freed entry.1)) len _ m _ freed) (omega (arith, more)) refl (omega (arith, longer))
+      let freed = by_freed (between entry.1) s _ m (max l (long (lengths rest))) is in
+      same_is (by_held (between len) (band_step from to s (Freed entry.1)) len _ m _ freed) (omega (arith, more)) refl (omega (arith, longer))
   by_moved false s entry len rest m l d upto is =
       let more = count_cons entry.1 (lengths rest) in
       let longer = long_cons entry.1 (lengths rest) in
@@ -171,28 +165,16 @@ module _ (from to : ℕ) where
     abbrev row : Row
     row = get_or told.rows 1 no_row
 
-    -- nothing changes
-    stays : (account : Account) → account.inventory ≡ inventory → Tells band (record { account = account; rows = told.rows })
-    stays account same = record {
-      inside = tells.inside;
-      is = subst (λ (l : Inventory). Is band (count (lengths l)) row.most row.longest) (sym same) tells.is;
-      within = subst (λ (l : Inventory). IsWithin (in_band (lengths l)) row) (sym same) tells.within;
-    }
-
     -- blocks are taken back
-    taken : (name : Name) (account : Account) → account.inventory ≡ kept name inventory → Tells (band_after from to band (freed_steps name inventory)) (record { account = account; rows = told.rows })
-    taken name account same =
+    of_taken : (o : Option Name) → Tells (band_after from to band (taken_steps inventory o)) (record { account = with_taken told.account o; rows = told.rows })
+    of_taken None = tells
+    of_taken (Some name) =
         let less = freed_within (band_of from to) 1 name inventory in
         record {
           inside = tells.inside;
-          is = subst (λ (l : Inventory). Is (band_after from to band (freed_steps name inventory)) (count (lengths l)) row.most row.longest) (sym same)
-              (same_is (all_taken name inventory band row.most row.longest 0 (same_is tells.is (omega arith) refl refl)) (omega arith) refl refl);
-          within = subst (λ (l : Inventory). IsWithin (in_band (lengths l)) row) (sym same) (omega (arith, less.0, tells.within.0), omega (arith, less.1, tells.within.1));
+          is = same_is (all_taken name inventory band row.most row.longest 0 (same_is tells.is (omega arith) refl refl)) (omega arith) refl refl;
+          within = (omega (arith, less.0, tells.within.0), omega (arith, less.1, tells.within.1));
         }
-
-    of_taken : (o : Option Name) → Tells (band_after from to band (taken_steps inventory o)) (record { account = with_taken told.account o; rows = told.rows })
-    of_taken None = stays told.account refl
-    of_taken (Some name) = taken name (with_taken told.account (Some name)) refl
 
     -- a block is asked for
     module _ (len : ℕ) where
@@ -212,24 +194,21 @@ module _ (from to : ℕ) where
       asked_is =
           let more = count_cons len (lengths inventory) in
           let longer = long_cons len (lengths inventory) in
-          same_is (after_reached (band_step from to band (Held len)) _ _ _ (after_held band len _ _ _ tells.is)) refl
+          same_is (after_reached (band_step from to band (Held len)) _ _ _ (by_held (between len) band len _ _ _ tells.is)) refl
           (omega (arith, more, rise.most_is)) (omega (arith, longer, rise.longest_is, tells.within.1))
 
-      given : (account : Account) (name : Name) → account.inventory ≡ (name, len) ∷ inventory → Tells asked (record { account = account; rows = rows_asked })
-      given account name same = record {
+      given : (most : ℕ) (name : Name) → Tells asked (record { account = record { inventory = (name, len) ∷ inventory; most = most }; rows = rows_asked })
+      given most name = record {
         inside = rise.inside;
-        is = subst (λ (l : Inventory). Is asked (count (lengths l)) (get_or rows_asked 1 no_row).most (get_or rows_asked 1 no_row).longest) (sym same)
-            (same_is asked_is (omega (arith, count_cons len (lengths inventory))) refl refl);
-        within = subst (λ (l : Inventory). IsWithin (in_band (lengths l)) (get_or rows_asked 1 no_row)) (sym same) (omega (arith, rise.most_is), omega (arith, rise.longest_is));
+        is = same_is asked_is (omega (arith, count_cons len (lengths inventory))) refl refl;
+        within = (omega (arith, rise.most_is), omega (arith, rise.longest_is));
       }
 
-      not_given : (account : Account) → account.inventory ≡ inventory → Tells (band_step from to asked (Freed len)) (record { account = account; rows = rows_asked })
-      not_given account same = record {
+      not_given : (most : ℕ) → Tells (band_step from to asked (Freed len)) (record { account = record { inventory = inventory; most = most }; rows = rows_asked })
+      not_given most = record {
         inside = rise.inside;
-        is = subst (λ (l : Inventory). Is (band_step from to asked (Freed len)) (count (lengths l)) (get_or rows_asked 1 no_row).most (get_or rows_asked 1 no_row).longest) (sym same)
-            (same_is (after_freed asked len _ _ _ asked_is) (omega arith) refl refl);
-        within = subst (λ (l : Inventory). IsWithin (in_band (lengths l)) (get_or rows_asked 1 no_row)) (sym same)
-            (omega (arith, rise.most_is, tells.within.0), omega (arith, rise.longest_is, tells.within.1));
+        is = same_is (by_freed (between len) asked _ _ _ asked_is) (omega arith) refl refl;
+        within = (omega (arith, rise.most_is, tells.within.0), omega (arith, rise.longest_is, tells.within.1));
       }
 
       -- one is resized
@@ -257,13 +236,13 @@ module _ (from to : ℕ) where
           }
 
     entry : (made : List (Option Name)) (call : Call) (reply : Reply) → Tells (band_after from to band (entry_steps made inventory call reply)) (row_accounted (band_of from to) made told call reply)
-    entry made (Allocate len) (Made name) = given len _ name refl
-    entry made (Allocate len) reply = not_given len _ refl
+    entry made (Allocate len) (Made name) = given len _ name
+    entry made (Allocate len) reply = not_given len _
     entry made (Release target) reply = of_taken (freed_by made (Release target) reply)
     entry made (Take from) reply = of_taken (freed_by made (Take from) reply)
     entry made (Resize target len) Resized = resized len (name_of made target)
-    entry made (Resize target len) reply = stays told.account refl
-    entry made other reply = stays told.account refl
+    entry made (Resize target len) reply = tells
+    entry made other reply = tells
 
   -- ---- all entries
 

@@ -40,8 +40,6 @@ one_table {sli} {grain} calls answers rows others are were =
 
 record IsFirstFew (lists : ℕ → List Row) (at more : ℕ) (found : List Row) : Type 0 where
   place : ℕ
-  from : at ≤ place
-  to : place ≤ at + more
   is : found ≡ lists place
   few : (length (lists place) ≤ 64) ⊎ (place ≡ at + more)
   finer : (k : ℕ) → at ≤ k → k < place → 64 < length (lists k)
@@ -50,16 +48,12 @@ by_few : (lists : ℕ → List Row) (at more : ℕ) (b : Bool) (found : List Row
     → IsFirstFew lists at (suc more) (cond b (lists at) found)
 by_few lists at more true found is first = record {
   place = at;
-  from = omega arith;
-  to = omega arith;
   is = refl;
   few = inl (leb-true (length (lists at)) 64 is);
   finer = λ k low below. absurd (omega (arith, low, below));
 }
 by_few lists at more false found is first = record {
   place = first.place;
-  from = omega (arith, first.from);
-  to = omega (arith, first.to);
   is = first.is;
   few = elim first.few [ inl few ↦ inl few | inr last ↦ inr (omega (arith, last)) ];
   finer = λ k low below. elim (cases_eq k at) [
@@ -69,7 +63,7 @@ by_few lists at more false found is first = record {
 }
 
 first_is : (lists : ℕ → List Row) (at more : ℕ) → IsFirstFew lists at more (first_few lists at more)
-first_is lists at zero = record { place = at; from = omega arith; to = omega arith; is = refl; few = inr (omega arith); finer = λ k low below. absurd (omega (arith, low, below)) }
+first_is lists at zero = record { place = at; is = refl; few = inr (omega arith); finer = λ k low below. absurd (omega (arith, low, below)) }
 first_is lists at (suc more) = by_few lists at more (nat_le (length (lists at)) 64) (first_few lists (at + 1) more) refl (first_is lists (at + 1) more)
 
 -- ---- the table

@@ -1,7 +1,11 @@
 -- How a row of places is divided, from its end, by the fewest words.
-use Rattle.std.specs.Prelude.{◌≡◌, ℕ, zero, suc, ◌+◌, ◌-◌, ◌*◌, ◌<◌, ◌≤◌, ◌^◌, ◌⊎◌, ⊤, List, [], ◌∷◌, get_or, set, length, nat_lt, if◌then◌else◌}
-use Rattle.tlsf_held.specs.Merges.{row_words, starts_at}
-use Rattle.tlsf_held.specs.Steps.{row_between}
+use Rattle.std.specs.Prelude.{◌≡◌, ℕ, zero, suc, ◌+◌, ◌-◌, ◌*◌, ◌<◌, ◌≤◌, ◌^◌, ◌⊎◌, ⊤, List, [], ◌∷◌, ◌++◌, Option, get_or, set, length, nat_lt, if◌then◌else◌}
+use Rattle.tlsf_heap.specs.declared.name.Name.{Name}
+use Rattle.tlsf_calls.specs.declared.entry.Entry.{Entry}
+use Rattle.tlsf_held.specs.KindLines.{kinds_text}
+use Rattle.tlsf_held.specs.Merges.{heaps_of, row_words, starts_at}
+use Rattle.tlsf_held.specs.RowTallies.{table_of}
+use Rattle.tlsf_held.specs.Steps.{row_between, steps_told}
 use Rattle.tlsf_held.specs.declared.row.Row.{Row}
 use Rattle.tlsf_held.specs.declared.steps.Step.{Step}
 use Rattle.tlsf_pool.specs.declared.sizes.split.Split.{Split}
@@ -111,3 +115,9 @@ pub record IsCheapest (sli heaps : ℕ) (steps : List Step) (table rows : List R
   pub few : length lens ≤ heaps
   pub least : (others : List ℕ) → Divide (length table) 0 others → length others ≤ heaps
       → words_by (part_words sli steps table) 0 lens ≤ words_by (part_words sli steps table) 0 others
+
+-- a text has the lines of the workers below a number more, each of its table merged
+pub record AddsMerged (sli heaps workers : ℕ) (made : List (Option Name)) (entries : List Entry) (old new : List ℕ) : Type 0 where
+  pub tables : ℕ → List Row
+  pub each : (j : ℕ) → j < workers → IsCheapest sli (heaps_of heaps) (steps_told j made entries) (table_of sli j made entries) (tables j)
+  pub written : new ≡ old ++ kinds_text sli tables workers

@@ -1,7 +1,7 @@
 -- The table of kinds that a worker's calls keep to.
 use Rattle.std.specs.Prelude.{◌≡◌, ◌↔◌, ℕ, ◌<◌, ◌≤◌, List, [], ◌∷◌, length, map}
 use Rattle.std.specs.List.{range_with_len}
-use Rattle.tlsf_heap.specs.Calls.{Call, Allocate, Release, Write, Resize, Read, Answer}
+use Rattle.tlsf_heap.specs.Calls.{Call, Allocate, Answer}
 use Rattle.tlsf_pool.specs.laws.Kinds.{Inventory, inventory_after, lengths}
 use Rattle.tlsf_pool.specs.declared.kind.Kind.{Kind}
 use Rattle.tlsf_held.specs.Rows.{row_count, row_in, row_of, used, IsWithin}
@@ -10,10 +10,7 @@ use Rattle.tlsf_held.specs.declared.row.Row.{Row}
 -- the lengths that are held, with that of the block that a call asks for
 abbrev pub lengths_with : Inventory → Call → List ℕ
 lengths_with inventory (Allocate len) = len ∷ lengths inventory
-lengths_with inventory (Release name) = lengths inventory
-lengths_with inventory (Write name at bytes) = lengths inventory
-lengths_with inventory (Resize name len) = lengths inventory
-lengths_with inventory (Read name at n) = lengths inventory
+lengths_with inventory call = lengths inventory
 
 -- of one row these calls, which get these answers, hold no more blocks at once, and none longer. So it is with each block that is
 -- asked for, and in the end

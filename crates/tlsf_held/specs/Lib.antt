@@ -9,10 +9,6 @@ pub mod Merges
 pub mod Rows
 -- Definitions that only clauses of private functions cite.
 pub mod Divisions
-pub mod Lent
-pub mod MergedLines
-pub mod Replies
 pub mod RowTallies
-pub mod Runs
 pub mod Steps
 pub mod Tallies

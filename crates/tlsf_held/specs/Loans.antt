@@ -1,7 +1,7 @@
 -- The blocks that a worker holds of its heap, and the most words that it wants at once.
 use Rattle.std.specs.Prelude.{◌↔◌, ℕ, ◌+◌, ◌≤◌, List, [], ◌∷◌, Option, Some, None, fold, max, filter, not, is_ok, if◌then◌else◌}
 use Rattle.tlsf_heap.specs.Blocks.{want}
-use Rattle.tlsf_heap.specs.Calls.{Call as HeapCall, Allocate as AllocateAt, Release as ReleaseAt, Write as WriteAt, Resize as ResizeAt, Read as ReadAt, Answer}
+use Rattle.tlsf_heap.specs.Calls.{Call as HeapCall, Allocate as AllocateAt, Answer}
 use Rattle.tlsf_heap.specs.declared.name.Name.{Name}
 use Rattle.tlsf_pool.specs.laws.Contents.{is_same}
 use Rattle.tlsf_pool.specs.laws.Kinds.{Inventory, inventory_after, with_length}
@@ -12,6 +12,7 @@ use Rattle.tlsf_calls.specs.declared.reply.Reply.{Reply}
 use Rattle.tlsf_calls.specs.declared.reply.Reply.TheVariants.{Made, Freed, Resized, Took}
 use Rattle.tlsf_calls.specs.declared.target.Target.{Target}
 use Rattle.tlsf_crew.specs.histories.History.{entries_of}
+use Rattle.tlsf_held.specs.declared.loans.Loan.{Loan}
 use Rattle.tlsf_crew.specs.model.World.{name_of}
 
 -- the words that the blocks of an inventory want
@@ -22,10 +23,7 @@ wanted_in (entry ∷ inventory) = want entry.1 + wanted_in inventory
 -- these, and those of the block that a call asks for
 abbrev pub wanted_with : Inventory → HeapCall → ℕ
 wanted_with inventory (AllocateAt len) = want len + wanted_in inventory
-wanted_with inventory (ReleaseAt name) = wanted_in inventory
-wanted_with inventory (WriteAt name at bytes) = wanted_in inventory
-wanted_with inventory (ResizeAt name len) = wanted_in inventory
-wanted_with inventory (ReadAt name at n) = wanted_in inventory
+wanted_with inventory call = wanted_in inventory
 
 -- these calls, which get these answers, want at most this many words at once: with each block that is asked for, and in the end
 abbrev pub WantAtMost : ℕ → Inventory → List HeapCall → List Answer → Type 0
@@ -89,3 +87,21 @@ accounted made account call reply = account
 
 abbrev pub account_of : ℕ → List (Option Name) → List Entry → Account
 account_of worker made entries = fold (λ account e. accounted made account e.call e.reply) no_loans (entries_of worker entries)
+
+-- ---- the loans of a worker as an inventory
+
+-- one loan more stands first
+abbrev pub with_loan : Inventory → Loan → Inventory
+with_loan inventory loan = (loan.name, loan.len) ∷ inventory
+
+-- the newest first
+abbrev pub inventory_of : List Loan → Inventory
+inventory_of loans = fold with_loan [] loans
+
+-- the loans but those of a name
+abbrev pub others : Name → List Loan → List Loan
+others name loans = filter (λ loan. not (is_same name loan.name)) loans
+
+-- a loan with another length, where it is of the name
+abbrev pub with_len : Name → ℕ → Loan → Loan
+with_len name len loan = if is_same name loan.name then record loan { len = len } else loan

@@ -1,8 +1,10 @@
 -- The needs of a trace's workers from their heaps.
 use Rattle.std.specs.Prelude.{◌≡◌, ◌↔◌, ℕ, ◌<◌, ◌≤◌, IsSomeAnd, IsTrue, List, [], ◌∷◌, Option, Some, Result, ⊤}
 use Rattle.std.specs.List.{AllByRecursion}
-use Rattle.tlsf_heap.specs.Calls.{Call, Allocate, Release, Write, Resize, Read, Answer}
+use Rattle.tlsf_heap.specs.Calls.{Call, Allocate, Answer}
 use Rattle.tlsf_heap.specs.Lawful.{IsRegion}
+use Rattle.tlsf_heap.specs.declared.name.Name.{Name}
+use Rattle.tlsf_calls.specs.declared.entry.Entry.{Entry}
 use Rattle.tlsf_pool.specs.laws.MixedSizes.{AreModest, HasRoomFor}
 use Rattle.tlsf_crew.specs.histories.History.{answers_on, calls_on}
 use Rattle.tlsf_pool.specs.declared.kind.Kind.{Kind}
@@ -20,6 +22,10 @@ use Rattle.tlsf_lines.specs.declared.trace_fault.TraceFault.{TraceFault}
 use Rattle.tlsf_trace.specs.Output.{level_in, run_of}
 use Rattle.tlsf_trace.specs.Replay.{IsRun}
 use Rattle.tlsf_trace.specs.declared.summary.Summary.{Summary}
+
+-- the results of a replay of a trace that are measured: the names that its events made, and its entries
+abbrev pub IsRunOf : Trace → List (Option Name) → List Entry → Type 0
+IsRunOf trace made entries = let run = run_of trace in (made ≡ run.made) × (entries ≡ run.entries)
 
 -- the least bounds of these calls, which got these answers. No fewer blocks are held at once, the one that is asked for included,
 -- and no fewer bytes
@@ -102,10 +108,7 @@ HeldKindsSuffice = (trace : Trace) (j : ℕ) (rows : List Row) → IsRegion (lev
 abbrev pub IsServed : List Kind → Inventory → Call → Type 0
 IsServed kinds inventory (Allocate len) = (sli : ℕ) (p : PoolsState) → ArePools sli p → table_of p ≡ kinds → held_by p ≡ held_of kinds (lengths inventory)
     → IsSomeAnd (part_of p len) (λ i. HasPlace (part_at p i).ledger len)
-IsServed kinds inventory (Release name) = ⊤
-IsServed kinds inventory (Write name at bytes) = ⊤
-IsServed kinds inventory (Resize name len) = ⊤
-IsServed kinds inventory (Read name at n) = ⊤
+IsServed kinds inventory call = ⊤
 
 -- so it is with each of these calls, which get these answers
 abbrev pub EachServed : List Kind → Inventory → List Call → List Answer → Type 0

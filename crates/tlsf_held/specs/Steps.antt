@@ -10,7 +10,7 @@ use Rattle.tlsf_calls.specs.declared.reply.Reply.{Reply}
 use Rattle.tlsf_crew.specs.histories.History.{entries_of}
 use Rattle.tlsf_held.specs.Loans.{accounted, freed_by, no_loans, resized_by, Account}
 use Rattle.tlsf_held.specs.Merges.{is_between}
-use Rattle.tlsf_held.specs.Replies.{is_given}
+use Rattle.tlsf_held.specs.Tallies.{is_given}
 use Rattle.tlsf_held.specs.Rows.{no_row}
 use Rattle.tlsf_held.specs.declared.row.Row.{Row}
 use Rattle.tlsf_held.specs.declared.band.Band.{Band}

@@ -25,40 +25,7 @@ fn is_between(from: u64, to: u64, len: u32) -> bool
 
 impl Band {
     ghost use Rattle.std.specs.Prelude.{◌≡◌, ◌+◌, ◌<◌, ◌≤◌, ◌^◌};
-    ghost use Rattle.tlsf_held.specs.Steps.{no_band, band_step, with_freed, with_held, with_reached};
-
-    // Of no block.
-    fn new() -> Band
-        ensures { result ≡ no_band }
-    {
-        Band {
-            held: 0,
-            row: Row::new(),
-        }
-    }
-
-    // Notes a block of this many bytes.
-    fn hold(&mut self, len: u32)
-        requires { self.old.held + 1 < 2 ^ 64 }
-        ensures { self.new ≡ with_held self.old len }
-    {
-        self.held += 1;
-        self.row.longest = self.row.longest.max(len);
-    }
-
-    // Notes that one is held no more.
-    fn free(&mut self)
-        ensures { self.new ≡ with_freed self.old }
-    {
-        self.held = self.held.saturating_sub(1);
-    }
-
-    // Notes that these are held at once.
-    fn reach(&mut self)
-        ensures { self.new ≡ with_reached self.old }
-    {
-        self.row.most = self.row.most.max(self.held);
-    }
+    ghost use Rattle.tlsf_held.specs.Steps.{band_step};
 
     // Notes a step, where the lengths are those from one on, below another.
     fn note(&mut self, from: u64, to: u64, step: Step)
@@ -69,15 +36,16 @@ impl Band {
         match step {
             Step::Held(len) => {
                 if is_between(from, to, len) {
-                    self.hold(len);
+                    self.held += 1;
+                    self.row.longest = self.row.longest.max(len);
                 }
             }
             Step::Freed(len) => {
                 if is_between(from, to, len) {
-                    self.free();
+                    self.held = self.held.saturating_sub(1);
                 }
             }
-            Step::Reached => self.reach(),
+            Step::Reached => self.row.most = self.row.most.max(self.held),
         }
     }
 }
@@ -86,7 +54,10 @@ impl Band {
 pub fn row_between(steps: &[Step], from: u64, to: u64) -> Row
     ensures { result ≡ told.row_between steps.now from to }
 {
-    let mut band = Band::new();
+    let mut band = Band {
+        held: 0,
+        row: Row::new(),
+    };
     for step in steps {
         band.note(from, to, *step);
     }

@@ -2,7 +2,7 @@
 ghost use Rattle.std.specs.Prelude.{◌≡◌, ◌++◌, OnOk, string_bytes};
 ghost use Rattle.tlsf_class.specs.Classes.{IsLevel};
 ghost use Rattle.tlsf_held.specs.KindLines.{kinds_line, kinds_text, pair_text, pairs_text, rows_written};
-ghost use Rattle.tlsf_held.specs.MergedLines.{AddsMerged};
+ghost use Rattle.tlsf_held.specs.Divisions.{AddsMerged};
 ghost use Rattle.tlsf_held.specs.RowTallies as told;
 
 use crate::merging::merged_table_of;

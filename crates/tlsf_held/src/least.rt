@@ -2,7 +2,7 @@
 ghost use Rattle.std.specs.Prelude.{◌≡◌, ◌+◌, ◌<◌, ◌≤◌, ◌++◌, ◌^◌, IfOk, IfSome, OnOk, string_bytes};
 ghost use Rattle.tlsf_held.specs.Least as told;
 ghost use Rattle.tlsf_held.specs.Least.{least_line, least_text, unserved_in, with_words, AreLeastRows, AreLeastWords, IsLeastRow, IsReady, IsScriptBut, KeepsScript};
-ghost use Rattle.tlsf_held.specs.Runs.{IsRunOf};
+ghost use Rattle.tlsf_held.specs.Measures.{IsRunOf};
 ghost use Rattle.tlsf_lines.specs.Trace.{Trace};
 ghost use Rattle.tlsf_lines.specs.Versions.{most_words_of};
 

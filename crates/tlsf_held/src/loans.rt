@@ -1,6 +1,5 @@
 ghost use Rattle.std.specs.Prelude.{◌≡◌, ◌+◌, ◌<◌, ◌≤◌, ◌*◌, ◌^◌, length, map, vec_len};
 ghost use Rattle.tlsf_crew.specs.model.World as crew;
-ghost use Rattle.tlsf_held.specs.Lent as lent;
 ghost use Rattle.tlsf_held.specs.Loans as told;
 ghost use Rattle.tlsf_held.specs.Rows as rows;
 ghost use Rattle.tlsf_pool.specs.laws.Contents as laws;
@@ -32,8 +31,7 @@ pub struct Loans {
 
 impl Model for Loans {
     ghost use Rattle.std.specs.Prelude.{◌≡◌, ◌≤◌, ◌*◌, ◌^◌, vec_len};
-    ghost use Rattle.tlsf_held.specs.Loans.{Account, wanted_in};
-    ghost use Rattle.tlsf_held.specs.Lent.{inventory_of};
+    ghost use Rattle.tlsf_held.specs.Loans.{Account, inventory_of, wanted_in};
 
     ghost Value = { Account };
 
@@ -51,7 +49,7 @@ pub fn is_same(a: Name, b: Name) -> bool
 
 // The words that blocks want.
 fn words_of(loans: &[Loan]) -> u128
-    ensures words { result ≡ told.wanted_in (lent.inventory_of loans.now) }
+    ensures words { result ≡ told.wanted_in (told.inventory_of loans.now) }
     ensures few { result ≤ 2 ^ 32 * length loans.now }
 {
     let mut words = 0;
@@ -64,7 +62,7 @@ fn words_of(loans: &[Loan]) -> u128
 // The loans that are held, summed up by rows, where 2^grain classes make one.
 fn row_in<const SLI: u32>(loans: &[Loan], grain: u32, at: usize) -> Row
     requires { rows.IsGrain SLI grain }
-    ensures row { result ≡ rows.row_in (rows.row_of SLI grain) at (lengths (lent.inventory_of loans.now)) }
+    ensures row { result ≡ rows.row_in (rows.row_of SLI grain) at (lengths (told.inventory_of loans.now)) }
     ensures few { result.most + 1 < 2 ^ 64 }
 {
     let mut row = Row::new();
@@ -78,7 +76,7 @@ fn row_in<const SLI: u32>(loans: &[Loan], grain: u32, at: usize) -> Row
 
 // Takes the loans of a name out.
 fn take_out(loans: &mut Vec<Loan>, name: Name)
-    ensures items { loans.new.items ≡ lent.others name loans.old.items }
+    ensures items { loans.new.items ≡ told.others name loans.old.items }
     ensures few { vec_len loans.new ≤ vec_len loans.old }
 {
     loans.retain(|loan| !is_same(name, loan.name));
@@ -86,7 +84,7 @@ fn take_out(loans: &mut Vec<Loan>, name: Name)
 
 // A loan with another length, where it is of the name.
 fn with_len(loan: Loan, name: Name, len: u32) -> Loan
-    ensures { result ≡ lent.with_len name len loan }
+    ensures { result ≡ told.with_len name len loan }
 {
     if is_same(name, loan.name) {
         Loan {
@@ -100,7 +98,7 @@ fn with_len(loan: Loan, name: Name, len: u32) -> Loan
 
 // Gives the loans of a name another length.
 fn change_len(loans: &mut [Loan], name: Name, len: u32)
-    ensures { loans.new ≡ map (lent.with_len name len) loans.old }
+    ensures { loans.new ≡ map (told.with_len name len) loans.old }
 {
     for loan in loans.iter_mut() {
         *loan = with_len(*loan, name, len);
@@ -109,7 +107,7 @@ fn change_len(loans: &mut [Loan], name: Name, len: u32)
 
 // Gives the loans of a name another length, where they are kept.
 fn change_kept(loans: &mut Vec<Loan>, name: Name, len: u32)
-    ensures items { loans.new.items ≡ map (lent.with_len name len) loans.old.items }
+    ensures items { loans.new.items ≡ map (told.with_len name len) loans.old.items }
     ensures few { vec_len loans.new ≤ vec_len loans.old }
 {
     change_len(loans, name, len);
@@ -149,8 +147,7 @@ pub fn resized_by(made: &[Option<Name>], target: Target, reply: Reply) -> Option
 
 impl Loans {
     ghost use Rattle.std.specs.Prelude.{◌≡◌, OnOk, IfOk};
-    ghost use Rattle.tlsf_held.specs.Lent.{inventory_of};
-    ghost use Rattle.tlsf_held.specs.Loans.{account_of, accounted, no_loans, with_asked, with_given, with_resized, with_taken};
+    ghost use Rattle.tlsf_held.specs.Loans.{account_of, accounted, inventory_of, no_loans, with_asked, with_given, with_resized, with_taken};
 
     /// Of no call.
     pub fn new(alloc: Global) -> Loans

@@ -21,6 +21,7 @@ use tlsf_pool::{Split, fixed_region};
 const NO_REGION: u64 = 1 << 32;
 
 // The words of a pool for a row.
+#[tactic(auto, using(crate::proofs::RowWords::too_many))]
 fn row_words<const SLI: u32>(row: Row) -> u64
     requires { IsLevel SLI }
     ensures words { result ≡ merges.row_words SLI row }

@@ -1,6 +1,6 @@
 //! The lengths that a worker holds, step by step, as the entries of a run tell them.
 ghost use Rattle.std.specs.Prelude.{◌≡◌, ◌++◌, IfOk, OnOk};
-ghost use Rattle.tlsf_held.specs.Lent.{inventory_of};
+ghost use Rattle.tlsf_held.specs.Loans.{inventory_of};
 ghost use Rattle.tlsf_held.specs.Steps as told;
 
 use crate::loans::{Loan, Loans, freed_by, is_same, resized_by};

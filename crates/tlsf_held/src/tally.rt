@@ -1,6 +1,6 @@
 ghost use Rattle.tlsf_class.specs.Classes.{IsLevel};
 ghost use Rattle.std.specs.Prelude.{◌≡◌};
-ghost use Rattle.tlsf_held.specs.Replies as told;
+ghost use Rattle.tlsf_held.specs.Tallies as told;
 
 use tlsf_crew::{Call, CrewRefusal, Entry, Reply};
 use tlsf_pool::mixed_region;
@@ -40,45 +40,27 @@ fn is_post_freed(reply: Reply) -> bool
     }
 }
 
-// Whether it is the heap that refused.
-fn is_of_heap(why: CrewRefusal) -> bool
-    ensures { result ≡ told.is_of_heap why }
-{
-    matches!(why, CrewRefusal::Heap(_))
-}
-
 // Whether the heap was asked to resize a block, and answered.
 fn is_judged(reply: Reply) -> bool
     ensures { result ≡ told.is_judged reply }
 {
-    match reply {
-        Reply::Resized => true,
-        Reply::Refused(why) => is_of_heap(why),
-        _ => false,
-    }
+    matches!(reply, Reply::Resized | Reply::Refused(CrewRefusal::Heap(_)))
 }
 
 impl Tally {
     ghost use Rattle.std.specs.Prelude.{◌+◌, ◌<◌, ◌≤◌, ◌^◌};
     ghost use Rattle.tlsf_held.specs.HeldLines.{held_region};
-    ghost use Rattle.tlsf_held.specs.Tallies.{no_calls, with_length, with_release, with_request, noted, tally_of};
-
-    // Of no call.
-    fn new() -> Tally
-        ensures { result ≡ no_calls }
-    {
-        Tally {
-            held: 0,
-            most: 0,
-            longest: 0,
-        }
-    }
+    ghost use Rattle.tlsf_held.specs.Tallies.{with_length, with_release, with_request, noted, tally_of};
 
     /// The tally that the entries of a run tell of a worker's calls.
     pub fn of(worker: u32, entries: &[Entry]) -> Tally
         ensures { result ≡ tally_of worker entries.now }
     {
-        let mut tally = Tally::new();
+        let mut tally = Tally {
+            held: 0,
+            most: 0,
+            longest: 0,
+        };
         for entry in entries {
             if entry.worker == worker {
                 tally.note(entry);

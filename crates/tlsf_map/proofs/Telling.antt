@@ -21,26 +21,15 @@ tells_then (one ∷ others) more text behind first tells = (
   tells_then others more first.1 behind first.3 tells,
 )
 
--- more may stand before and after it
-tells_on : (told : List (List ℕ)) (text behind : List ℕ) → Tells told text → Tells told (text ++ behind)
-tells_on [] text behind tells = tt
-tells_on (one ∷ others) text behind tells = (
-  tells.0,
-  tells.1 ++ behind,
-  ap (λ (t : List ℕ). t ++ behind) tells.2
-      ∙ (append_assoc tells.0 (one ++ tells.1) behind ∙ ap (λ (t : List ℕ). tells.0 ++ t) (append_assoc one tells.1 behind)),
-  tells_on others tells.1 behind tells.3,
-)
-
 -- nothing is added, and this
 pub adds_none : (old : List ℕ) → Adds [] old old
 adds_none old = record { added = []; is = sym (append-nil old); tells = tt }
 
-pub adds_one : (old one : List ℕ) → Adds (one ∷ []) old (old ++ one)
-adds_one old one = record { added = one; is = refl; tells = ([], [], sym (append-nil one), tt) }
-
 pub adds_text : (old one new : List ℕ) → new ≡ old ++ one → Adds (one ∷ []) old new
-adds_text old one new is = subst (λ t. Adds (one ∷ []) old t) (sym is) (adds_one old one)
+adds_text old one new is = record { added = one; is = is; tells = ([], [], sym (append-nil one), tt) }
+
+pub adds_one : (old one : List ℕ) → Adds (one ∷ []) old (old ++ one)
+adds_one old one = adds_text old one (old ++ one) refl
 
 -- and then more
 pub adds_then : (told more : List (List ℕ)) (old mid new : List ℕ) → Adds told old mid → Adds more mid new → Adds (told ++ more) old new
@@ -59,23 +48,22 @@ adds_before told old front new adds = record {
 }
 
 pub adds_on : (told : List (List ℕ)) (old mid behind : List ℕ) → Adds told old mid → Adds told old (mid ++ behind)
-adds_on told old mid behind adds = record {
-  added = adds.added ++ behind;
-  is = ap (λ (t : List ℕ). t ++ behind) adds.is ∙ append_assoc old adds.added behind;
-  tells = tells_on told adds.added behind adds.tells;
-}
+adds_on told old mid behind adds =
+    subst (λ (l : List (List ℕ)). Adds l old (mid ++ behind)) (append-nil told) (adds_then told [] old mid (mid ++ behind) adds (record { added = behind; is = refl; tells = tt }))
 
--- something else, this, and something else
+-- something else and this, and something else after it
+pub adds_behind : (old front one : List ℕ) → Adds (one ∷ []) old ((old ++ front) ++ one)
+adds_behind old front one = adds_before (one ∷ []) old front ((old ++ front) ++ one) (adds_one (old ++ front) one)
+
 pub adds_between : (old front one behind : List ℕ) → Adds (one ∷ []) old (((old ++ front) ++ one) ++ behind)
-adds_between old front one behind =
-    adds_on (one ∷ []) old ((old ++ front) ++ one) behind (adds_before (one ∷ []) old front ((old ++ front) ++ one) (adds_one (old ++ front) one))
+adds_between old front one behind = adds_on (one ∷ []) old ((old ++ front) ++ one) behind (adds_behind old front one)
 
 -- this, something else, and that
 pub adds_two : (old one between other behind : List ℕ) → Adds (one ∷ other ∷ []) old ((((old ++ one) ++ between) ++ other) ++ behind)
 adds_two old one between other behind =
     let mid = (old ++ one) ++ between in
     adds_on (one ∷ other ∷ []) old (mid ++ other) behind
-    (adds_then (one ∷ []) (other ∷ []) old (old ++ one) (mid ++ other) (adds_one old one) (adds_before (other ∷ []) (old ++ one) between (mid ++ other) (adds_one mid other)))
+    (adds_then (one ∷ []) (other ∷ []) old (old ++ one) (mid ++ other) (adds_one old one) (adds_behind (old ++ one) between other))
 
 -- a text that is added to nothing
 pub tells_whole : (told : List (List ℕ)) (text : List ℕ) → Adds told [] text → Tells told text
@@ -86,15 +74,12 @@ pub told_more : {A : Type 0} (f : A → List (List ℕ)) (xs : List A) (x : A) �
 told_more f [] x = append-nil (f x)
 told_more f (y ∷ xs) x = ap (λ (l : List (List ℕ)). f y ++ l) (told_more f xs x) ∙ sym (append_assoc (f y) (all_told f xs) (f x))
 
-pub adds_more : {A : Type 0} (f : A → List (List ℕ)) (xs : List A) (x : A) (old mid new : List ℕ) → Adds (all_told f xs) old mid → Adds (f x) mid new → Adds (all_told f (xs ++ x ∷ [])) old new
-adds_more f xs x old mid new so_far next =
-    subst (λ (told : List (List ℕ)). Adds told old new) (sym (told_more f xs x)) (adds_then (all_told f xs) (f x) old mid new so_far next)
-
 -- where they are the first of others
 pub adds_next : {A : Type 0} (f : A → List (List ℕ)) (xs : List A) (i : ℕ) (x : A) (old mid new : List ℕ) → i < length xs → get_or xs i x ≡ x
     → Adds (all_told f (take i xs)) old mid → Adds (f x) mid new → Adds (all_told f (take (i + 1) xs)) old new
 adds_next f xs i x old mid new lt found so_far next =
-    subst (λ l. Adds (all_told f l) old new) (sym (take_more xs i x lt ∙ ap (λ y. take i xs ++ y ∷ []) found)) (adds_more f (take i xs) x old mid new so_far next)
+    subst (λ l. Adds (all_told f l) old new) (sym (take_more xs i x lt ∙ ap (λ y. take i xs ++ y ∷ []) found))
+    (subst (λ (told : List (List ℕ)). Adds told old new) (sym (told_more f (take i xs) x)) (adds_then (all_told f (take i xs)) (f x) old mid new so_far next))
 
 -- the first n of no more than n are all
 pub adds_all : {A : Type 0} (f : A → List (List ℕ)) (xs : List A) (i : ℕ) (old new : List ℕ) → length xs ≤ i → Adds (all_told f (take i xs)) old new → Adds (all_told f xs) old new

@@ -67,6 +67,7 @@ fn numbers_of(alloc: Global, heap: &MappedHeap) -> Result<String, AllocError> {
     Ok(text)
 }
 
+#[tactic(auto, using(crate::proofs::Telling::adds_two))]
 fn write_heap(
     alloc: Global,
     text: &mut String,
@@ -83,6 +84,7 @@ fn write_heap(
     Ok(())
 }
 
+#[tactic(auto, using(crate::proofs::Telling::adds_none, crate::proofs::Telling::adds_next, crate::proofs::Telling::adds_all))]
 fn write_heaps(
     alloc: Global,
     text: &mut String,
@@ -131,6 +133,7 @@ pub fn write_moment(
 /// # Errors
 ///
 /// Where memory runs out.
+#[tactic(auto, using(crate::proofs::Telling::adds_behind))]
 pub fn write_page_head(text: &mut String) -> Result<(), AllocError>
     ensures { OnOk result (Adds head_told (string_bytes text.old) (string_bytes text.new)) }
 {

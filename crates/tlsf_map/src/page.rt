@@ -73,6 +73,7 @@ fn rows_of(alloc: Global, grid: Grid, heap: &MappedHeap) -> Result<String, Alloc
 }
 
 // Adds a heap in its own grid, at this height.
+#[tactic(auto, using(crate::proofs::Telling::adds_between))]
 fn write_heap(
     alloc: Global,
     text: &mut String,
@@ -110,6 +111,7 @@ fn end_of(words: u32, heaps: &[MappedHeap]) -> u64
     y
 }
 
+#[tactic(auto, using(crate::proofs::Telling::adds_none, crate::proofs::Telling::adds_next, crate::proofs::Telling::adds_all))]
 fn write_heaps(
     alloc: Global,
     text: &mut String,

@@ -59,6 +59,7 @@ fn rows_of(alloc: Global, scale: u64, words: u32, heap: &MappedHeap) -> Result<S
 }
 
 // Adds a heap, with as many words a character as it needs.
+#[tactic(auto, using(crate::proofs::Telling::adds_between))]
 fn write_heap(
     alloc: Global,
     text: &mut String,
@@ -74,6 +75,7 @@ fn write_heap(
     Ok(())
 }
 
+#[tactic(auto, using(crate::proofs::Telling::adds_none, crate::proofs::Telling::adds_next, crate::proofs::Telling::adds_all))]
 fn write_heaps(
     alloc: Global,
     text: &mut String,

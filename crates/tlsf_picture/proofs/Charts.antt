@@ -1,21 +1,16 @@
 -- Charts of heaps, one heap after another.
-use Rattle.tlsf_picture.proofs.Common.{◌≡◌, ℕ, zero, suc, ◌+◌, List, [], ◌∷◌, ◌++◌, length, sym, ap, ◌∙◌, subst, arith, AllZip, range_with_len, length-map-range_with_len, Trace, heap_points, point_at, points_of, IsLook, Point, level_in}
+use Rattle.tlsf_picture.proofs.Common.{map-range_with_len_more, ◌≡◌, ℕ, ◌+◌, List, [], ◌∷◌, ◌++◌, length, sym, ap, ◌∙◌, subst, arith, AllZip, range_with_len, length-map-range_with_len, Trace, heap_points, point_at, points_of, IsLook, Point, level_in}
+use mathlib.Core.List.{map-id}
+use Rattle.tlsf_picture.specs.plots.Points.{longest_of}
+use Rattle.tlsf_picture.specs.plots.Worst.{IsNamed}
 use Rattle.tlsf_picture.specs.declared.plots.look.Look.{Look}
+use Rattle.tlsf_picture.proofs.Maps.{push_both}
 
 -- one more, of the next number
-zip_more : {B : Type 0} (R : ℕ → B → Type 0) (a n : ℕ) (xs : List B) (x : B) → AllZip R (range_with_len a n) xs → R (a + n) x → AllZip R (range_with_len a (suc n)) (xs ++ x ∷ [])
-zip_more R a zero [] x all one = let here : a + 0 ≡ a = omega arith in (subst (λ (k : ℕ). R k x) here one, tt)
-zip_more R a zero (y ∷ xs) x all one = absurd all
-zip_more R a (suc n) [] x all one = absurd all
-zip_more R a (suc n) (y ∷ xs) x all one =
-    let next : a + suc n ≡ a + 1 + n = omega arith in
-    (all.0, zip_more R (a + 1) n xs x all.1 (subst (λ (k : ℕ). R k x) next one))
-
 pub one_more : {B : Type 0} (R : ℕ → B → Type 0) (n : ℕ) (xs : List B) (x : B) → AllZip R (range_with_len 0 n) xs → R n x → AllZip R (range_with_len 0 (n + 1)) (xs ++ x ∷ [])
 one_more R n xs x all one =
-    let here : n ≡ 0 + n = omega arith in
-    let next : suc n ≡ n + 1 = omega arith in
-    subst (λ (k : ℕ). AllZip R (range_with_len 0 k) (xs ++ x ∷ [])) next (zip_more R 0 n xs x all (subst (λ (k : ℕ). R k x) here one))
+    let more : range_with_len 0 (n + 1) ≡ range_with_len 0 n ++ n ∷ [] = sym (map-id (range_with_len 0 (n + 1))) ∙ (map-range_with_len_more (λ k. k) 0 n n (omega arith) ∙ ap (λ (l : List ℕ). l ++ n ∷ []) (map-id (range_with_len 0 n))) in
+    subst (λ (l : List ℕ). AllZip R l (xs ++ x ∷ [])) (sym more) (push_both R (range_with_len 0 n) xs n x all one)
 
 -- the points of a heap, at the level that the header names
 pub points_are : (trace : Trace) (sli j : ℕ) (points : List Point) → level_in trace.header ≡ sli → points ≡ points_of sli trace j → points ≡ heap_points trace j
@@ -30,3 +25,7 @@ pub look_is : (trace : Trace) (j longest : ℕ) (points : List Point) (look : Lo
     → IsLook longest (heap_points trace j) (length trace.lines + 2) look
 look_is trace j longest points look are is =
     subst (λ (n : ℕ). IsLook longest (heap_points trace j) n look) (many_points trace j) (subst (λ (ps : List Point). IsLook longest ps (length ps) look) are is)
+
+-- for the longest request it is the one that is named
+pub named_is : (trace : Trace) (j longest : ℕ) (points : List Point) (look : Look) → points ≡ heap_points trace j → longest ≡ longest_of j trace.lines → IsLook longest points (length points) look → IsNamed trace j look
+named_is trace j longest points look are longest_is is = subst (λ (n : ℕ). IsLook n (heap_points trace j) (length trace.lines + 2) look) longest_is (look_is trace j longest points look are is)

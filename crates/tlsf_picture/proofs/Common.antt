@@ -23,7 +23,7 @@ pub use Rattle.tlsf_picture.specs.declared.plots.point.Point.{Point}
 pub use Rattle.tlsf_picture.specs.plots.Curves.{worst_of, bucket, curve_of, stride_for}
 pub use Rattle.tlsf_picture.specs.plots.Plots.{heap_points, IsChart, AreCharts}
 pub use Rattle.tlsf_picture.specs.plots.Points.{point_at, longest_among, request_of, words_asked, asked_at, asked_in, bytes_asked, has_refusal, point_of, points_of, told_at, words_by}
-pub use Rattle.tlsf_picture.specs.plots.Standings.{IsLook, is_fuller, is_worse, standing_in}
+pub use Rattle.tlsf_picture.specs.plots.Standings.{IsLook, IsPeak, live_in, is_fuller, is_worse, standing_in}
 pub use Rattle.tlsf_picture.specs.plots.Told.{chart_told}
 pub use Rattle.tlsf_trace.specs.Output.{level_in}
 pub use Rattle.tlsf_trace.specs.Players.{Stands}

@@ -8,8 +8,7 @@
 --   Lines: the points of a heap, one line after another
 --   Charts: charts of heaps, one heap after another
 --   Telling: what a plot tells of a heap
---   Peaks: where a heap has most live words, one point after another
---   Standings: where a heap stands worst, one point and one heap after another
+--   Standings: where a heap stands worst, one point and one heap after another, and where it has most live words
 mod Common
 pub mod Labels
 pub mod Walking
@@ -19,5 +18,4 @@ pub mod Onward
 pub mod Lines
 pub mod Charts
 pub mod Standings
-pub mod Peaks
 pub mod Telling

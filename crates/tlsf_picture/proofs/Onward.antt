@@ -4,19 +4,19 @@ use Rattle.tlsf_map.specs.declared.named_lines.NamedLines.{NamedLines}
 use Rattle.tlsf_map.proofs.Telling.{adds_then, tells_whole, told_more}
 use Rattle.tlsf_picture.proofs.Maps.{push_both}
 
--- a line without a moment, and one with it
-pub line_left : (lines : ℕ) (named : List NamedLines) (number : ℕ) → is_shown lines named (number + 1) ≡ false → shown_until lines named number ≡ shown_until lines named (number + 1)
-line_left lines named number none =
+-- the lines up to one more, which has a moment or not
+line_more : (lines : ℕ) (named : List NamedLines) (number : ℕ) (b : Bool) → is_shown lines named (number + 1) ≡ b
+    → cond b (shown_until lines named number ++ (number + 1) ∷ []) (shown_until lines named number) ≡ shown_until lines named (number + 1)
+line_more lines named number b is =
     let next : suc number ≡ number + 1 = omega arith in
-    sym (sym (ap (λ (n : ℕ). shown_until lines named n) next)
-    ∙ ap (λ (b : Bool). cond b (shown_until lines named number ++ (number + 1) ∷ []) (shown_until lines named number)) none)
+    ap (λ (b : Bool). cond b (shown_until lines named number ++ (number + 1) ∷ []) (shown_until lines named number)) (sym is) ∙ ap (λ (n : ℕ). shown_until lines named n) next
+
+pub line_left : (lines : ℕ) (named : List NamedLines) (number : ℕ) → is_shown lines named (number + 1) ≡ false → shown_until lines named number ≡ shown_until lines named (number + 1)
+line_left lines named number none = line_more lines named number false none
 
 pub line_shown : (lines : ℕ) (named : List NamedLines) (number : ℕ) → is_shown lines named (number + 1) ≡ true
     → shown_until lines named number ++ (number + 1) ∷ [] ≡ shown_until lines named (number + 1)
-line_shown lines named number some =
-    let next : suc number ≡ number + 1 = omega arith in
-    sym (sym (ap (λ (n : ℕ). shown_until lines named n) next)
-    ∙ ap (λ (b : Bool). cond b (shown_until lines named number ++ (number + 1) ∷ []) (shown_until lines named number)) some)
+line_shown lines named number some = line_more lines named number true some
 
 -- one moment more
 pub shown_more : (lines : List ℕ) (line : ℕ) (trace : Trace) (before after : List ℕ) → HasShown lines trace before → AddsMoment line trace before after

@@ -1,11 +1,13 @@
--- Where a heap stands worst, one point and one heap after another.
-use Rattle.tlsf_picture.proofs.Common.{◌≡◌, ℕ, ◌+◌, ◌<◌, ◌≤◌, Bool, false, true, inl, inr, ◌⊎◌, List, length, refl, sym, ◌∙◌, subst, arith, true≢false, nat_lt, Trace, IsLook, is_fuller, is_worse, standing_in, Point}
-use Rattle.std.proofs.lemmas.Bool.{cases_eq}
+-- Where a heap stands worst, one point and one heap after another, and where it has most live words.
+use Rattle.tlsf_picture.proofs.Common.{heap_points, IsPeak, live_in, ◌≡◌, ℕ, ◌+◌, ◌<◌, ◌≤◌, false, true, inl, inr, List, length, refl, sym, ◌∙◌, subst, arith, true≢false, nat_lt, Trace, IsLook, is_fuller, is_worse, standing_in, Point}
+use Rattle.std.proofs.lemmas.Bool.{cases_Bool, cases_eq}
 use Rattle.std.proofs.lemmas.Bool.Decides.{nat_tests}
 use Rattle.tlsf_picture.specs.plots.Worst.{IsNamed, IsWorstOf, standing_at}
 use Rattle.tlsf_picture.specs.declared.plots.look.Look.{Look}
+use Rattle.tlsf_picture.specs.declared.plots.peak.Peak.{Peak}
 use Rattle.tlsf_picture.specs.declared.plots.standing.Standing.{Standing}
 use Rattle.tlsf_picture.specs.declared.plots.standing.Standing.TheVariants.{NoRoom, Room}
+use Rattle.tlsf_picture.proofs.Charts.{many_points}
 
 -- ---- the order
 
@@ -47,19 +49,15 @@ worse_one (NoRoom a) (Room b q) more = refl
 worse_one (Room a s) (NoRoom b) more = absurd (true≢false (sym more))
 worse_one (Room a s) (Room b q) more = fuller_one a s b q more
 
-either : (b : Bool) → (b ≡ true) ⊎ (b ≡ false)
-either true = inl refl
-either false = inr refl
-
 not_worse_itself : (a : Standing) → is_worse a a ≡ false
-not_worse_itself a = elim (either (is_worse a a)) [
+not_worse_itself a = elim (cases_Bool (is_worse a a)) [
   | inl more ↦ absurd (true≢false (sym more ∙ worse_one a a more))
   | inr none ↦ none
 ]
 
 -- what is worse than the worst so far is worse than all others too
 worse_than : (new worst other : Standing) → is_worse new worst ≡ true → is_worse other worst ≡ false → is_worse new other ≡ true
-worse_than new worst other more none = elim (either (is_worse new other)) [
+worse_than new worst other more none = elim (cases_Bool (is_worse new other)) [
   | inl is ↦ is
   | inr not ↦ absurd (true≢false (sym more ∙ not_worse_over new other worst not none))
 ]
@@ -162,3 +160,42 @@ module _ (trace : Trace) (n : ℕ) (worst own : Look) (has : IsWorstOf trace n w
       first = so_far.first;
     },
   )
+
+-- ---- most live words
+
+pub first_peak : (points : List Point) (live : ℕ) → live ≡ live_in points 0 → IsPeak points 1 (record { line = 1; live = live })
+first_peak points live is = record {
+  number = 0;
+  within = omega arith;
+  line = omega arith;
+  live = is;
+  most = λ i lt. let here : 0 ≡ i = omega (arith, lt) in subst (λ (k : ℕ). live_in points k ≤ live) here (omega (arith, is));
+  first = λ i lt. absurd (omega (arith, lt));
+}
+
+module _ (points : List Point) (n live : ℕ) (peak : Peak) (has : IsPeak points n peak) (is : live ≡ live_in points n) where
+  pub higher_peak : (line : ℕ) → line ≡ n + 1 → peak.live < live → IsPeak points (n + 1) (record { line = line; live = live })
+  higher_peak line next more = record {
+    number = n;
+    within = omega arith;
+    line = next;
+    live = is;
+    most = λ i lt. last_or i n (λ (k : ℕ). live_in points k ≤ live) lt (λ below. omega (arith, has.most i below, more)) (omega (arith, is));
+    first = λ i lt. omega (arith, has.most i lt, more);
+  }
+
+  pub same_peak : live ≤ peak.live → IsPeak points (n + 1) peak
+  same_peak less = record {
+    number = has.number;
+    within = omega (arith, has.within);
+    line = has.line;
+    live = has.live;
+    most = λ i lt. last_or i n (λ (k : ℕ). live_in points k ≤ peak.live) lt (has.most i) (omega (arith, is, less));
+    first = has.first;
+  }
+
+-- the peak of a heap of a trace
+pub peak_is : (trace : Trace) (j : ℕ) (points : List Point) (peak : Peak) → points ≡ heap_points trace j → IsPeak points (length points) peak
+    → IsPeak (heap_points trace j) (length trace.lines + 2) peak
+peak_is trace j points peak are is =
+    subst (λ (n : ℕ). IsPeak (heap_points trace j) n peak) (many_points trace j) (subst (λ (ps : List Point). IsPeak ps (length ps) peak) are is)

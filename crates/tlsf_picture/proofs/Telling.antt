@@ -1,14 +1,10 @@
 -- The meaning of a plot of a heap.
 use Rattle.tlsf_picture.proofs.Common.{◌≡◌, ℕ, List, [], ◌∷◌, ◌++◌, subst, Adds}
-use Rattle.tlsf_map.proofs.Telling.{adds_before, adds_on, adds_one, adds_then}
+use Rattle.tlsf_map.proofs.Telling.{adds_before, adds_behind, adds_on, adds_then}
 
 -- what is added to a text that something else was added to
 pub adds_after : (told : List (List ℕ)) (old front mid new : List ℕ) → mid ≡ old ++ front → Adds told mid new → Adds told old new
 adds_after told old front mid new is adds = adds_before told old front new (subst (λ t. Adds told t new) is adds)
-
--- something else and this
-adds_behind : (old front one : List ℕ) → Adds (one ∷ []) old ((old ++ front) ++ one)
-adds_behind old front one = adds_before (one ∷ []) old front ((old ++ front) ++ one) (adds_one (old ++ front) one)
 
 -- four, with something else before, between and after them
 pub adds_four : (old front one a two b three c four behind : List ℕ)

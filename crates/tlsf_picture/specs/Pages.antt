@@ -6,7 +6,7 @@ use Rattle.tlsf_lines.specs.Trace.{Trace}
 use Rattle.tlsf_map.specs.Told.{Moment, Tells, page_told}
 use Rattle.tlsf_map.specs.declared.named_lines.NamedLines.{NamedLines}
 use Rattle.tlsf_picture.specs.Drawn.{AreMaps}
-use Rattle.tlsf_picture.specs.plots.Peaks.{IsPeak}
+use Rattle.tlsf_picture.specs.plots.Standings.{IsPeak}
 use Rattle.tlsf_picture.specs.plots.Plots.{heap_points}
 use Rattle.tlsf_picture.specs.plots.Points.{longest_of}
 use Rattle.tlsf_picture.specs.plots.Worst.{IsNamed}

@@ -1,7 +1,6 @@
 pub mod Points
 pub mod Curves
 pub mod Standings
-pub mod Peaks
 pub mod Told
 pub mod Plots
 pub mod Worst

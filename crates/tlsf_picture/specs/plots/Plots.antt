@@ -4,11 +4,10 @@ use Rattle.std.specs.List.{AllZip, range_with_len}
 use Rattle.tlsf_lines.specs.Trace.{Trace}
 use Rattle.tlsf_map.specs.Told.{Tells}
 use Rattle.tlsf_picture.specs.plots.Curves.{curve_of, stride_for}
-use Rattle.tlsf_picture.specs.plots.Peaks.{IsPeak}
 use Rattle.tlsf_picture.specs.plots.Points.{longest_of, points_of}
 use Rattle.tlsf_picture.specs.declared.form.Form.{Form}
 use Rattle.tlsf_picture.specs.declared.form.Form.TheVariants.{Svg, Text}
-use Rattle.tlsf_picture.specs.plots.Standings.{IsLook}
+use Rattle.tlsf_picture.specs.plots.Standings.{IsLook, IsPeak}
 use Rattle.tlsf_picture.specs.plots.Told.{plot_told}
 use Rattle.tlsf_picture.specs.declared.plots.chart.Chart.{Chart}
 use Rattle.tlsf_picture.specs.declared.plots.point.Point.{Point}

@@ -1,8 +1,9 @@
--- Which line of a trace to look at: how a heap stands after each, and where it stands worst.
-use Rattle.std.specs.Prelude.{◌≡◌, ℕ, ◌+◌, ◌<◌, Bool, true, false, ◌==◌, ◌&&◌, ◌||◌, nat_lt, if◌then◌else◌, List}
+-- Which line of a trace to look at: how a heap stands after each, and where it stands worst. Also where it has most live words.
+use Rattle.std.specs.Prelude.{◌≡◌, ℕ, ◌+◌, ◌<◌, ◌≤◌, Bool, true, false, ◌==◌, ◌&&◌, ◌||◌, nat_lt, if◌then◌else◌, List}
 use Rattle.tlsf_picture.specs.plots.Curves.{point_in}
 use Rattle.tlsf_picture.specs.plots.Points.{lacks}
 use Rattle.tlsf_picture.specs.declared.plots.look.Look.{Look}
+use Rattle.tlsf_picture.specs.declared.plots.peak.Peak.{Peak}
 use Rattle.tlsf_picture.specs.declared.plots.point.Point.{Point}
 use Rattle.tlsf_picture.specs.declared.plots.standing.Standing.{Standing}
 use Rattle.tlsf_picture.specs.declared.plots.standing.Standing.TheVariants.{NoRoom, Room}
@@ -41,3 +42,16 @@ pub record IsLook (len : ℕ) (points : List Point) (n : ℕ) (look : Look) : Ty
   pub line : look.line ≡ number + 1
   pub standing : look.standing ≡ standing_in len points number
   pub worst : IsWorst len points n number
+
+-- the words that are live at the point of a number
+abbrev pub live_in : List Point → ℕ → ℕ
+live_in points number = (point_in points number).live
+
+-- of the first n points none has more live words than this one, and it is the first of those. The first point stands after line 1
+pub record IsPeak (points : List Point) (n : ℕ) (peak : Peak) : Type 0 where
+  pub number : ℕ
+  pub within : number < n
+  pub line : peak.line ≡ number + 1
+  pub live : peak.live ≡ live_in points number
+  pub most : (i : ℕ) → i < n → live_in points i ≤ peak.live
+  pub first : (i : ℕ) → i < number → live_in points i < peak.live

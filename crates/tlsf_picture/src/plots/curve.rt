@@ -1,8 +1,7 @@
 //! The curve of a heap: as many of its points as one as it takes.
 ghost use Rattle.std.specs.Prelude.{◌≡◌, ◌+◌, ◌<◌, ◌≤◌, ◌^◌, length, IfOk};
 ghost use Rattle.tlsf_picture.specs.plots.Curves as drawn;
-ghost use Rattle.tlsf_picture.specs.plots.Peaks.{IsPeak, live_in};
-ghost use Rattle.tlsf_picture.specs.plots.Standings.{IsLook, standing_in};
+ghost use Rattle.tlsf_picture.specs.plots.Standings.{IsLook, IsPeak, live_in, standing_in};
 ghost use Rattle.tlsf_picture.specs.Steps.{HasPoint, IsMostPoints};
 
 use crate::plots::look::Look;
@@ -65,6 +64,7 @@ fn standing_at(len: u32, points: &[Point], number: usize) -> Standing
 }
 
 // The line to look at among one point more than the first of these points.
+#[tactic(auto, using(crate::proofs::Standings::worse_look, crate::proofs::Standings::same_look))]
 fn worse_line(len: u32, points: &[Point], number: usize, worst: Look) -> Look
     requires point { HasPoint points.now number }
     requires worst { IsLook len points.now number worst }
@@ -81,6 +81,7 @@ fn worse_line(len: u32, points: &[Point], number: usize, worst: Look) -> Look
 
 /// The line to look at of a heap whose worker's longest request is of this many bytes. It is the first of those after which the
 /// heap stands worst.
+#[tactic(auto, using(crate::proofs::Standings::first_look))]
 pub fn worst_line(len: u32, points: &[Point]) -> Look
     requires { HasPoint points.now 0 }
     ensures { IsLook len points.now (length points.now) result }
@@ -102,6 +103,7 @@ fn live_at(points: &[Point], number: usize) -> u32
 }
 
 // The peak among one point more than the first of these points.
+#[tactic(auto, using(crate::proofs::Standings::higher_peak, crate::proofs::Standings::same_peak))]
 fn higher_peak(points: &[Point], number: usize, peak: Peak) -> Peak
     requires point { HasPoint points.now number }
     requires peak { IsPeak points.now number peak }
@@ -119,6 +121,7 @@ fn higher_peak(points: &[Point], number: usize, peak: Peak) -> Peak
 }
 
 /// The peak of a heap: the first line after which most words are live.
+#[tactic(auto, using(crate::proofs::Standings::first_peak))]
 pub fn peak_of(points: &[Point]) -> Peak
     requires { HasPoint points.now 0 }
     ensures { IsPeak points.now (length points.now) result }

@@ -203,6 +203,7 @@ fn write_chart(alloc: Global, text: &mut String, y: usize, chart: &Chart) -> Res
     write_told(text, chart, &parts)
 }
 
+#[tactic(auto, using(tlsf_map::proofs::Telling::adds_none, tlsf_map::proofs::Telling::adds_next, tlsf_map::proofs::Telling::adds_all))]
 fn write_charts(alloc: Global, text: &mut String, charts: &[Chart]) -> Result<(), AllocError>
     requires { length charts.now ≤ 8 }
     ensures { OnOk result (Adds (all_told chart_told charts.now) (string_bytes text.old) (string_bytes text.new)) }

@@ -45,14 +45,10 @@ loop-number-preserved g c =
 
 pub returns-in_err-map_heap-clause-shows : goal.returns-in_err-map_heap-clause-shows
 returns-in_err-map_heap-clause-shows g c =
-    let ws = c.loop-number.workers in
-    let i = c.loop-number.number in
-    let is = slice_get-get_or ws i c.index-workers-number.result (omega (arith, c.loop-number-test.true)) in
-    heap_left _ ws i _ c.map_heap.new.worker c.loop-number.invariant.shows is c.map_heap.ensures.left
+    heap_left _ c.loop-number.workers c.loop-number.number _ c.map_heap.new.worker c.loop-number.invariant.shows
+    (slice_get-get_or c.loop-number.workers c.loop-number.number c.index-workers-number.result (omega (arith, c.loop-number-test.true))) c.map_heap.ensures.left
 
 pub returns-in_err-push-clause-shows : goal.returns-in_err-push-clause-shows
 returns-in_err-push-clause-shows g c =
-    let ws = c.loop-number.workers in
-    let i = c.loop-number.number in
-    let is = slice_get-get_or ws i c.index-workers-number.result (omega (arith, c.loop-number-test.true)) in
-    heap_left _ ws i _ c.map_heap.new.worker c.loop-number.invariant.shows is c.map_heap.ensures.left
+    heap_left _ c.loop-number.workers c.loop-number.number _ c.map_heap.new.worker c.loop-number.invariant.shows
+    (slice_get-get_or c.loop-number.workers c.loop-number.number c.index-workers-number.result (omega (arith, c.loop-number-test.true))) c.map_heap.ensures.left

@@ -1,4 +1,4 @@
-use Rattle.tlsf_picture.specs.plots.Peaks.{IsPeak}
+use Rattle.tlsf_picture.specs.plots.Standings.{IsPeak}
 use Rattle.tlsf_picture.proofs.plots.curve.peak_of.Given as goal
 
 -- the peak among the points so far

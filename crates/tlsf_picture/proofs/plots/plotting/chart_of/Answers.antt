@@ -1,6 +1,6 @@
 use Rattle.tlsf_picture.proofs.Common.{◌≡◌, ◌+◌, List, length, refl, ap, ◌∙◌, arith, Header, curve_of, stride_for, heap_points, Point}
 use Rattle.tlsf_picture.proofs.Charts.{look_is, many_points, points_are}
-use Rattle.tlsf_picture.proofs.Peaks.{peak_is}
+use Rattle.tlsf_picture.proofs.Standings.{peak_is}
 use Rattle.tlsf_picture.proofs.plots.plotting.chart_of.Goals as goal
 
 pub returns : goal.returns
