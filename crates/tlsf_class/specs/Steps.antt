@@ -4,12 +4,7 @@ use Rattle.std.specs.Prelude.{◌≡◌, ℕ, List, ◌+◌, ◌*◌, ◌^◌, �
 use Rattle.std.specs.Int.{bit_at}
 use Rattle.tlsf_class.specs.Classes.{level_classes, last_class, IsLevel}
 
--- some words, and the number of touches: reads and writes of one of them
-pub record CountedWords : Type 0 where
-  pub words : List ℕ
-  pub touches : ℕ
-
--- the words of the two levels of bitmaps, and the number of touches
+-- the words of the two levels of bitmaps, and the number of touches: reads and writes of one of them
 pub record CountedLevels : Type 0 where
   pub first : ℕ
   pub second : List ℕ

@@ -65,11 +65,11 @@ impl<const SLI: u32> Bitmaps<SLI> {
         let word = self.levels.second_word(first_level);
         let wider = with_bit(word, class.second_level());
         self.levels.set_second_word(first_level, wider);
-        if word == 0 {
-            let first_word = self.levels.first_word();
-            self.levels
-                .set_first_word(with_bit(first_word, first_level));
-        }
+
+        // Whether it was set or not: a test would take as long.
+        let first_word = self.levels.first_word();
+        self.levels
+            .set_first_word(with_bit(first_word, first_level as u32));
     }
 
     /// Takes a class out, if it is a member. Four touches at most.
@@ -89,7 +89,7 @@ impl<const SLI: u32> Bitmaps<SLI> {
         if word == 0 {
             let first_word = self.levels.first_word();
             self.levels
-                .set_first_word(without_bit(first_word, first_level));
+                .set_first_word(without_bit(first_word, first_level as u32));
         }
     }
 
@@ -140,8 +140,8 @@ impl<const SLI: u32> Bitmaps<SLI> {
             return Some(class.below_plus(n));
         }
         let first_word = self.levels.first_word();
-        let first_level = lowest_bit_from(first_word, first_level + 1)?;
-        let word = self.levels.second_word(first_level);
+        let first_level = lowest_bit_from(first_word, first_level as u32 + 1)?;
+        let word = self.levels.second_word(first_level as usize);
         Some(Class::at(first_level, lowest_bit(word)))
     }
 }

@@ -87,12 +87,12 @@ impl<const SLI: u32> Class<SLI> {
 
     /// The first level of the class, 0 to 17, or to 20 at level 5: which two powers of two its sizes lie between. Its clauses say
     /// the range of the number besides, which a proof can't read off the private field.
-    pub(crate) fn first_level(self) -> u32
+    pub(crate) fn first_level(self) -> usize
         ensures value { result ≡ self.entry / level_classes SLI }
         ensures bound { result < 21 }
         ensures in_use { IsInUse SLI self.entry }
     {
-        (self.number as u32) >> SLI
+        self.number >> SLI
     }
 
     /// The second level of the class, 0 to 15, or to 31 at level 5: which sixteenth of its first level, or which 32nd.
@@ -104,12 +104,12 @@ impl<const SLI: u32> Class<SLI> {
     }
 
     /// The first level of the number below that of the class, 0 to 17, or to 20 at level 5.
-    pub(crate) fn first_level_below(self) -> u32
+    pub(crate) fn first_level_below(self) -> usize
         ensures value { result ≡ (self.entry - 1) / level_classes SLI }
         ensures bound { result < 21 }
         ensures in_use { IsInUse SLI self.entry }
     {
-        (self.number as u32 - 1) >> SLI
+        (self.number - 1) >> SLI
     }
 
     /// The second level of the number below that of the class, 0 to 15, or to 31 at level 5.
@@ -197,7 +197,7 @@ fn step_of<const SLI: u32>(words: u32) -> u32
 pub fn low<const SLI: u32>(class: Class<SLI>) -> u32
     ensures { result ≡ low SLI class.entry }
 {
-    let first_level = class.first_level();
+    let first_level = class.first_level() as u32;
     if first_level == 0 {
         class.second_level()
     } else {

@@ -1,15 +1,10 @@
 use Rattle.tlsf_class.proofs.Common.{◌≡◌, ap, refl, ◌∙◌, arith, bit_at}
-use Rattle.tlsf_class.proofs.BitmapWords.{WritesBit, WritesBit-read, members_of-set, marked_in-members, AreLevels-write, first_bit-kept, some_bit}
+use Rattle.tlsf_class.proofs.BitmapWords.{WritesBit, WritesBit-read, members_of-set, marked_in-members, AreLevels-write, some_bit}
 use Rattle.tlsf_class.proofs.bitmaps.Bitmaps.set.Given.{Over}
 use Rattle.tlsf_class.proofs.bitmaps.Bitmaps.set.Goals as goal
 
-sets_else : (g : Over) (c : goal.Else-word-eq0 g) → WritesBit g.row.SLI c.self.invariant.level c.self.inside.levels.second c.args.class c.first_level-first_level.result c.second_level.result c.with_bit-wider.result 1
-sets_else g c =
-    WritesBit-read g.row.SLI c.self.invariant.level _ _ _ _ c.second_word-word.result _ _ c.self.invariant.first_levels c.first_level-first_level.ensures.in_use c.first_level-first_level.ensures.value
-    c.second_level.ensures.value c.second_word-word.ensures.value c.with_bit-wider.ensures.same c.with_bit-wider.ensures.others
-
-sets_then : (g : Over) (c : goal.After-set_first_word g) → WritesBit g.row.SLI c.self.invariant.level c.self.inside.levels.second c.args.class c.first_level-first_level.result c.second_level.result c.with_bit-wider.result 1
-sets_then g c =
+sets : (g : Over) (c : goal.After-set_first_word g) → WritesBit g.row.SLI c.self.invariant.level c.self.inside.levels.second c.args.class c.first_level-first_level.result c.second_level.result c.with_bit-wider.result 1
+sets g c =
     WritesBit-read g.row.SLI c.self.invariant.level _ _ _ _ c.second_word-word.result _ _ c.self.invariant.first_levels c.first_level-first_level.ensures.in_use c.first_level-first_level.ensures.value
     c.second_level.ensures.value c.second_word-word.ensures.value c.with_bit-wider.ensures.same c.with_bit-wider.ensures.others
 
@@ -17,22 +12,10 @@ pub invariant_of-self : goal.invariant_of-self
 invariant_of-self g c =
     let read : c.first_word-first_word.result ≡ c.self.inside.levels.first = c.first_word-first_word.ensures.value ∙ rw (c.set_second_word.ensures, c.second_word-word.ensures.reads) refl in
     rw (c.set_first_word.ensures, c.first_word-first_word.ensures.reads, c.set_second_word.ensures, c.second_word-word.ensures.reads)
-    (AreLevels-write g.row.SLI c.self.invariant.level _ _ _ _ _ _ _ _ c.self.invariant (sets_then g c) (omega (arith, some_bit g.row.SLI c.self.invariant.level _ _ c.with_bit-wider.ensures.same, c.with_bit.ensures.same)) (λ k other. c.with_bit.ensures.others k other ∙ ap (λ w. bit_at w k) read))
+    (AreLevels-write g.row.SLI c.self.invariant.level _ _ _ _ _ _ _ _ c.self.invariant (sets g c) (omega (arith, some_bit g.row.SLI c.self.invariant.level _ _ c.with_bit-wider.ensures.same, c.with_bit.ensures.same)) (λ k other. c.with_bit.ensures.others k other ∙ ap (λ w. bit_at w k) read))
 
-pub invariant_of-self-else-word-eq0 : goal.invariant_of-self-else-word-eq0
-invariant_of-self-else-word-eq0 g c =
-    rw (c.set_second_word.ensures, c.second_word-word.ensures.reads)
-    (AreLevels-write g.row.SLI c.self.invariant.level c.self.inside.levels.first _ _ _ _ _ _ _ c.self.invariant (sets_else g c)
-    (first_bit-kept g.row.SLI c.self.invariant.level _ _ _ _ c.self.invariant (omega (arith, c.second_word-word.ensures.value)) (some_bit g.row.SLI c.self.invariant.level _ _ c.with_bit-wider.ensures.same)) (λ k other. refl))
-
-pub returns-then-word-eq0-clause-members : goal.returns-then-word-eq0-clause-members
-returns-then-word-eq0-clause-members g c =
+pub returns-clause-members : goal.returns-clause-members
+returns-clause-members g c =
     marked_in-members g.row.SLI c.self.invariant.level _ _ (invariant_of-self g c)
     ∙ rw (c.set_first_word.ensures, c.first_word-first_word.ensures.reads, c.set_second_word.ensures, c.second_word-word.ensures.reads, ← c.self.view_is, marked_in-members g.row.SLI c.self.invariant.level _ _ c.self.invariant)
-    (members_of-set g.row.SLI c.self.invariant.level _ _ _ _ _ (sets_then g c))
-
-pub returns-else-word-eq0-clause-members : goal.returns-else-word-eq0-clause-members
-returns-else-word-eq0-clause-members g c =
-    marked_in-members g.row.SLI c.self.invariant.level _ _ (invariant_of-self-else-word-eq0 g c)
-    ∙ rw (c.set_second_word.ensures, c.second_word-word.ensures.reads, ← c.self.view_is, marked_in-members g.row.SLI c.self.invariant.level _ _ c.self.invariant)
-    (members_of-set g.row.SLI c.self.invariant.level _ _ _ _ _ (sets_else g c))
+    (members_of-set g.row.SLI c.self.invariant.level _ _ _ _ _ (sets g c))
