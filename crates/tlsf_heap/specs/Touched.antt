@@ -38,10 +38,10 @@ release_at_touches = 29
 abbrev pub allocate_from_touches : ℕ
 allocate_from_touches = 24
 
--- the most touches of an aligned allocate, however many bytes. They are 26 for the allocate, 81 to move the block on, and 1 for the
+-- the most touches of an aligned allocate, however many bytes. They are 26 for the allocate, 77 to move the block on, and 1 for the
 -- length
 abbrev pub allocate_aligned_touches : ℕ
-allocate_aligned_touches = 108
+allocate_aligned_touches = 104
 
 -- the most touches of a resize. They are 3 to check the name, 1 for the tag after it, and 6 to take that block out of its list.
 -- Then come 7 for the headers, 7 to list the rest, and 3 for the payload. Each payload word of the block left takes one more

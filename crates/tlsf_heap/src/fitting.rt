@@ -1,7 +1,7 @@
 //! Good fit, splitting and coalescing over a region and the lists of its free blocks. Sizes and places are in words.
-ghost use Rattle.std.specs.Prelude.{◌≡◌, ◌≢◌, ℕ, ◌+◌, ◌-◌, ◌<◌, ◌≤◌, ◌++◌, true, false, Some, slice_get, List, Contains, max};
+ghost use Rattle.std.specs.Prelude.{◌≡◌, ◌≢◌, ℕ, ◌+◌, ◌-◌, ◌<◌, ◌≤◌, true, false, Some, slice_get, List, Contains};
 ghost use Rattle.std.specs.List.{AllByRecursion};
-ghost use Rattle.tlsf_heap.specs.Blocks.{size_of, words_in, payload_words, is_free, stamps, want, StandsAt};
+ghost use Rattle.tlsf_heap.specs.Blocks.{size_of, words_in, is_free, stamps, want};
 ghost use Rattle.tlsf_class.specs.Classes.{IsLevel, most_words, class_of};
 ghost use Rattle.tlsf_heap.specs.Regions.{AreRegions, EachAt, HasAt, IsTagOf, IsNextTag, IsPreviousTag, AreTagsAround, AreNeighbours, AreUnlisted, IsWithout, MovedToFront, withheld_alone, list_in, OnlyReads, IsInOrder, AwaitsTick, Edits, Relists};
 ghost use Rattle.tlsf_heap.specs.Footprint.{LeavesLive, LeavesPayloads};
@@ -12,7 +12,6 @@ ghost use Rattle.tlsf_heap.specs.Chosen.{IsHead, IsBestClass};
 ghost use Rattle.tlsf_heap.specs.Calls.{carved, coalesced, last_free, last_tick};
 ghost use Rattle.tlsf_heap.specs.CarvedUnset.{CarvedUnset};
 ghost use Rattle.tlsf_heap.specs.FreePlaces.{AreFreeLists};
-ghost use Rattle.tlsf_heap.specs.Touched.{groups_of};
 ghost use Rattle.tlsf_heap.specs.WordsInUse.{words_used};
 ghost use Rattle.tlsf_words.specs.Touched.{InGroups};
 

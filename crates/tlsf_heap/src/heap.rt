@@ -600,15 +600,14 @@ impl<const SLI: u32> Heap<SLI> {
     {
         let len = self.length(name).min(self.length(new));
         self.copy(name, new, len);
-        let tag = self.tag_of(name);
-        self.give_back(name.at, tag);
+        self.release_live(name);
         Ok(new)
     }
 
     /// The tag of the live block of that name.
     fn tag_of(&mut self, name: Name) -> Tag
         requires { IsLive self.old.heap name }
-        ensures tag { IsPlaceCheck self.old.heap name.at (Ok result) }
+        ensures tag { IsNameCheck self.old.heap name (Ok result) }
         ensures frame { FindsOut SLI 1 1 self.old self.new }
     {
         self.region.tag(name.at)

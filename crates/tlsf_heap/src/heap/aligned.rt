@@ -80,7 +80,7 @@ impl<const SLI: u32> Heap<SLI> {
         ensures allocates { AllocatesAligned allocate_aligned_touches SLI len (max step 1) skew (seen self.old) (seen self.new) self.new.stored result }
 
         // A refusal changes nothing.
-        ensures frame { Settles SLI 53 (peak_of self.old self.new) self.old self.new result }
+        ensures frame { Settles SLI 51 (peak_of self.old self.new) self.old self.new result }
     {
         if self.tick >= u64::MAX - 3 {
             return Err(Refusal::Worn);
@@ -127,17 +127,17 @@ impl<const SLI: u32> Heap<SLI> {
         ensures heap { self.new.heap ≡ (moved_on self.old.heap name gap words).heap }
         ensures ok { IsOk result }
         ensures keeps { Keeps SLI self.old self.new }
-        ensures touches { self.new.touches ≤ self.old.touches + 81 }
+        ensures touches { self.new.touches ≤ self.old.touches + 77 }
         ensures leaves { LeavesPayloads self.old.heap.blocks name.at self.old.touched self.new.touched }
-        ensures groups { InGroups 41 self.old.touched self.new.touched }
+        ensures groups { InGroups 39 self.old.touched self.new.touched }
     {
         if gap == 0 {
-            self.resize_words(name, words, 0)?;
+            self.resize_live(name, words)?;
             return Ok(name);
         }
-        self.resize_words(name, gap, 0)?;
+        self.resize_live(name, gap)?;
         let moved = self.words_from(name.at + gap, words)?;
-        self.release(name)?;
+        self.release_live(name);
         Ok(moved)
     }
 

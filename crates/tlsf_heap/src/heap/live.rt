@@ -1,12 +1,14 @@
-ghost use Rattle.std.specs.Prelude.{◌≡◌};
-ghost use Rattle.tlsf_heap.specs.Kept.{ChangesNothing, FindsOut};
-ghost use Rattle.tlsf_heap.specs.Effects.{AsksLive};
+ghost use Rattle.std.specs.Prelude.{◌≡◌, ◌≢◌, ◌≤◌, Ok};
+ghost use Rattle.tlsf_heap.specs.Calls.{last_tick};
+ghost use Rattle.tlsf_heap.specs.Kept.{ChangesNothing, DoesPart, FindsOut, Settles};
+ghost use Rattle.tlsf_heap.specs.Effects.{AsksLive, Releases, Resizes};
 ghost use Rattle.tlsf_heap.specs.Laws.{IsLive};
 ghost use Rattle.tlsf_heap.specs.Shown.{seen};
-ghost use Rattle.tlsf_heap.specs.WordsInUse.{words_at};
+ghost use Rattle.tlsf_heap.specs.WordsInUse.{peak_of, words_at};
 
 use super::Heap;
 use crate::name::Name;
+use crate::refusal::Refusal;
 
 impl<const SLI: u32> Heap<SLI> {
     /// Whether a live block of this heap has that name: for a caller who asks before a call. A forged name is not followed. Takes no
@@ -39,5 +41,27 @@ impl<const SLI: u32> Heap<SLI> {
     {
         let own = self.tag_of(name);
         own.size()
+    }
+
+    /// A `resize_words` of the live block of that name, to no payload.
+    pub(super) fn resize_live(&mut self, name: Name, words: u32) -> Result<(), Refusal>
+        requires live { IsLive self.old.heap name }
+        requires least { 4 ≤ words }
+        ensures resizes { Resizes 25 words 0 (seen self.old) (seen self.new) name result }
+        ensures frame { Settles SLI 14 (peak_of self.old self.new) self.old self.new result }
+    {
+        let own = self.tag_of(name);
+        self.refit(name, own, words, 0, true)
+    }
+
+    /// A `release` of the live block of that name. A tick is left.
+    pub(super) fn release_live(&mut self, name: Name)
+        requires live { IsLive self.old.heap name }
+        requires tick { self.old.heap.tick ≢ last_tick }
+        ensures releases { Releases 28 (seen self.old) (seen self.new) name (Ok tt) }
+        ensures frame { DoesPart SLI 28 14 self.old self.new }
+    {
+        let own = self.tag_of(name);
+        self.give_back(name.at, own);
     }
 }

@@ -57,9 +57,9 @@ impl<const SLI: u32> Heap<SLI> {
         if self.tick == u64::MAX {
             return Err(Refusal::Worn);
         }
-        let given = carve(&mut self.region, class, words, self.tick, len);
-        self.usage.give(given.words);
         let serial = self.tick;
+        let given = carve(&mut self.region, class, words, serial, len);
+        self.usage.give(given.words);
         self.tick += 1;
         Ok(Name {
             heap: self.id,

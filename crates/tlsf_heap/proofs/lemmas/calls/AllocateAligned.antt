@@ -195,15 +195,21 @@ module _ (h : HeapState) (name : Name) (gap n : ℕ) (lawful : IsLawful h) (has 
     λ worn. omega (arith, worn, left, shrinks_tick h name gap (gap + n) lawful has (omega arith) fresh),
   )
 
-  pub moved_done : (m : HeapState) (why : Refusal) (new : Name) → m ≡ (words_from (resized_words h name gap 0).heap (name.at + gap) n).heap → Ok new ≡ (words_from (resized_words h name gap 0).heap (name.at + gap) n).answer → Err why ≡ (released m name).answer → ⊥
-  moved_done m why new same given e =
+  -- and the words of the gap can be released then
+  pub moved_left : (m : HeapState) (new : Name) → m ≡ (words_from (resized_words h name gap 0).heap (name.at + gap) n).heap → Ok new ≡ (words_from (resized_words h name gap 0).heap (name.at + gap) n).answer → IsLive m name × (m.tick ≢ last_tick)
+  moved_left m new same given =
       let k = (resized_words h name gap 0).heap in
       let there = words_from k (name.at + gap) n in
       let kept = shrinks_has h name gap (gap + n) lawful has (omega arith) fresh in
       let still : HasWords there.heap name gap = lasts_named (Has name.serial gap) name (has_none name.serial gap) (one name gap) 0 k (GiveFrom (name.at + gap) n) (inl tt) kept in
       let ticks = (from_has k (name.at + gap) n new (sym given)).3 in
-      let done = released_live there.heap name (has_live there.heap name gap still) (λ worn. omega (arith, worn, left, ticks, shrinks_tick h name gap (gap + n) lawful has (omega arith) fresh)) in
-      let bad : ◌≡◌ {A = Result (Unit {0}) Refusal} (Err why) (Ok tt) = e ∙ ap (λ (s : HeapState). (released s name).answer) same ∙ done in cc
+      subst (λ (s : HeapState). IsLive s name × (s.tick ≢ last_tick)) (sym same)
+      (has_live there.heap name gap still, λ worn. omega (arith, worn, left, ticks, shrinks_tick h name gap (gap + n) lawful has (omega arith) fresh))
+
+  pub moved_done : (m : HeapState) (why : Refusal) (new : Name) → m ≡ (words_from (resized_words h name gap 0).heap (name.at + gap) n).heap → Ok new ≡ (words_from (resized_words h name gap 0).heap (name.at + gap) n).answer → Err why ≡ (released m name).answer → ⊥
+  moved_done m why new same given e =
+      let l = moved_left m new same given in
+      let bad : ◌≡◌ {A = Result (Unit {0}) Refusal} (Err why) (Ok tt) = e ∙ released_live m name l.0 l.1 in cc
 
 -- ---- a name that is given, and the payloads of the others
 
