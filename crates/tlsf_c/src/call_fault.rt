@@ -8,12 +8,17 @@ use tlsf_heap::{Checked, Refusal};
 /// Why a call is refused, beside what a heap refuses. The handles are then as before.
 #[derive(Clone, Copy)]
 pub enum CallFault {
+    // These three first: their numbers, 32, 36 and 40, rise by steps. So `refusal`, which tells the first or the last, takes no table.
+    /// The handle isn't open.
+    Closed,
+    /// A block is damaged: other code has written past the end of a payload.
+    Damaged,
+    /// The handle is open with another kind of end, or of arena.
+    OtherKind,
     /// A number doesn't fit: a region's words, a lane's capacity.
     BadSize,
     /// The memory was not granted.
     NoMemory,
-    /// The handle isn't open.
-    Closed,
     /// The handle is open already.
     InUse,
     /// No heap has that level.
@@ -22,14 +27,10 @@ pub enum CallFault {
     Full,
     /// The lane has nothing to take, as far as its end knows.
     Empty,
-    /// A block is damaged: other code has written past the end of a payload.
-    Damaged,
     /// Another thread was half through a step on the queue.
     Busy,
     /// As many blocks of a row of pools are held as may be.
     RowFull,
-    /// The handle is open with another kind of end, or of arena.
-    OtherKind,
 }
 
 impl CallFault {

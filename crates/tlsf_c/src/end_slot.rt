@@ -46,7 +46,8 @@ impl EndSlot {
         ensures idle { result ≡ true → is_used self.old.inner.value ≡ false }
         ensures same { self.new ≡ self.old }
     {
-        self.is_open && !self.inner.lend().is_in_use()
+        // As in `HeapSlot::serves`.
+        u8::from(self.is_open) != 0 && u8::from(self.inner.lend().is_in_use()) == 0
     }
 
     /// Takes out what is there, and leaves the place closed. A place that is closed or in use stays as it is: a signal handler interrupts

@@ -54,7 +54,8 @@ impl HeapSlot {
         ensures idle { result ≡ true → self.old.inner.value.is_in_use ≡ false }
         ensures same { self.new ≡ self.old }
     {
-        self.is_open && !self.inner.lend().is_in_use
+        // As numbers, which a processor compares with 0: `true` is a constant to it.
+        u8::from(self.is_open) != 0 && u8::from(self.inner.lend().is_in_use) == 0
     }
 
     /// Notes a block of `len` bytes, as `note_odd`.

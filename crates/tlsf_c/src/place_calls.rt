@@ -42,7 +42,7 @@ pub extern "C" fn tlsf_allocate_place(heap: &mut HeapSlot, len: usize) -> Placed
         (Tells placed_name result (allocated_in heap.old (saturated len)) (AllocatesUnset allocate_touches (level_in heap.old) (want (saturated len)) (saturated len) (seen_in heap.old) (seen_in heap.new) (stored_in heap.new))) }
 {
     if !heap.serves() {
-        return PlacedName::refusal(CallFault::Closed.refusal());
+        return PlacedName::refusal(CallFault::Closed.number());
     }
     let len = saturated(len);
     let answer = on_heap!(heap, owned => owned.allocate_unset(len));
