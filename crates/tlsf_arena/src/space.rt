@@ -1,5 +1,5 @@
 // The memory of an arena, and the order of two addresses in it.
-ghost use Rattle.std.specs.Prelude.{◌≡◌, ℕ, ◌+◌, ◌*◌, ◌/◌, ◌%◌, ◌^◌, ◌<◌, ◌≤◌, Bool, true, false, List, length, replicate, nat_le, ◌==◌};
+ghost use Rattle.std.specs.Prelude.{◌≡◌, ◌+◌, ◌*◌, ◌/◌, ◌%◌, ◌^◌, ◌<◌, ◌≤◌, Bool, true, false, List, length, replicate, ◌==◌};
 ghost use Rattle.std.specs.Bool.{Decides};
 ghost use denote.RawPtr.{block_ptr, block_of, count_of, InBlock};
 ghost use Rattle.linked_list_allocator.specs.Region.{Region, IsRegionSize, region_of};

@@ -1,5 +1,5 @@
 -- Events that are kept: one more.
-use Rattle.tlsf_lines.proofs.Common.{◌≡◌, ℕ, ◌+◌, ◌-◌, ◌≤◌, List, [], ◌∷◌, ◌++◌, length, take, drop, map, Option, Some, None, All, refl, ap, sym, subst, ◌∙◌, arith, length-append, drop-map, get_or_append_left, map-append, take-map, take_all, All-head, All-push, All-tail, All-weaker, Event, made_by, Grows, IsCallWithin, IsWithin, call_kept, event_kept}
+use Rattle.tlsf_lines.proofs.Common.{◌≡◌, ℕ, ◌+◌, ◌-◌, ◌≤◌, List, [], ◌∷◌, ◌++◌, length, take, drop, map, All, refl, ap, sym, ◌∙◌, arith, length-append, drop-map, get_or_append_left, map-append, take-map, take_all, All-head, All-push, All-tail, All-weaker, Event, made_by, Grows, IsCallWithin, IsWithin, call_kept, event_kept}
 use Rattle.tlsf_calls.specs.Bytes.{chunk_of}
 use Rattle.tlsf_calls.specs.declared.call.Call.{Call}
 use Rattle.tlsf_calls.specs.declared.call.Call.TheVariants as call

@@ -1,5 +1,5 @@
 -- A step of the loop over lines.
-use Rattle.tlsf_lines.proofs.Common.{◌≡◌, ℕ, ◌+◌, ◌≤◌, List, [], ◌∷◌, ◌++◌, length, Result, Ok, Err, refl, sym, ap, ◌∙◌, append_assoc, append-nil, arith, LineFault, Line, Allocate, Release, Write, Read, Resize, Drain, Phase, width_of, ◌>>=◌, judged_line, lines_in, pieces_of, nil_from_length}
+use Rattle.tlsf_lines.proofs.Common.{◌≡◌, ℕ, ◌+◌, ◌≤◌, List, [], ◌∷◌, ◌++◌, length, Result, Ok, Err, refl, sym, ap, ◌∙◌, append_assoc, append-nil, arith, LineFault, Line, Phase, width_of, ◌>>=◌, judged_line, lines_in, pieces_of, nil_from_length}
 
 abbrev pub put_behind : List Line → Result (List Line) (LineFault × ℕ) → Result (List Line) (LineFault × ℕ)
 put_behind prefix (Ok lines) = Ok (prefix ++ lines)
