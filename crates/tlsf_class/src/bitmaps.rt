@@ -61,15 +61,14 @@ impl<const SLI: u32> Bitmaps<SLI> {
         ensures touches { self.new.touches ≤ self.old.touches + 4 }
         ensures rise { self.old.touches ≤ self.new.touches }
     {
+        // Both words are read before one is written: LLVM then sets a bit in a register, and a test would take longer.
         let first_level = class.first_level();
-        let word = self.levels.second_word(first_level);
-        let wider = with_bit(word, class.second_level());
-        self.levels.set_second_word(first_level, wider);
-
-        // Whether it was set or not: a test would take as long.
         let first_word = self.levels.first_word();
+        let word = self.levels.second_word(first_level);
         self.levels
             .set_first_word(with_bit(first_word, first_level as u32));
+        let wider = with_bit(word, class.second_level());
+        self.levels.set_second_word(first_level, wider);
     }
 
     /// Takes a class out, if it is a member. Four touches at most.
