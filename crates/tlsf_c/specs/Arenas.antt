@@ -1,4 +1,4 @@
--- Which kind of arena a handle holds, and whether a call is using it.
+-- Which kind of arena a handle holds, and whether no call is using it.
 use Rattle.std.specs.Prelude.{Bool, true, false, Option, Some, None, []}
 use Rattle.tlsf_pool.specs.pools.Parts.{no_memory}
 use Rattle.tlsf_c.specs.OffsetLevels.{LevelOffsets}
@@ -6,27 +6,27 @@ use Rattle.tlsf_c.specs.PoolLevels.{LevelPools}
 use Rattle.tlsf_c.specs.declared.any_arena.AnyArena.{AnyArena}
 use Rattle.tlsf_c.specs.declared.any_arena.AnyArena.TheVariants.{Offsets, Pools}
 
--- a call is using it, where there is one
-abbrev pub is_arena_used : Option AnyArena → Bool
-is_arena_used None = false
-is_arena_used (Some (Offsets in_use o)) = in_use
-is_arena_used (Some (Pools in_use p)) = in_use
+-- no call is using it
+abbrev pub is_arena_idle : Option AnyArena → Bool
+is_arena_idle None = true
+is_arena_idle (Some (Offsets idle o)) = idle
+is_arena_idle (Some (Pools idle p)) = idle
 
 -- the same arena, that a call is using
 abbrev pub left_used_arena : Option AnyArena → Option AnyArena
 left_used_arena None = None
-left_used_arena (Some (Offsets in_use o)) = Some (Offsets true o)
-left_used_arena (Some (Pools in_use p)) = Some (Pools true p)
+left_used_arena (Some (Offsets idle o)) = Some (Offsets false o)
+left_used_arena (Some (Pools idle p)) = Some (Pools false p)
 
 abbrev pub is_offsets : Option AnyArena → Bool
 is_offsets None = false
-is_offsets (Some (Offsets in_use o)) = true
-is_offsets (Some (Pools in_use p)) = false
+is_offsets (Some (Offsets idle o)) = true
+is_offsets (Some (Pools idle p)) = false
 
 abbrev pub is_pools : Option AnyArena → Bool
 is_pools None = false
-is_pools (Some (Offsets in_use o)) = false
-is_pools (Some (Pools in_use p)) = true
+is_pools (Some (Offsets idle o)) = false
+is_pools (Some (Pools idle p)) = true
 
 -- what stands for an arena of offsets where there is none
 abbrev pub no_offsets : LevelOffsets
@@ -41,10 +41,10 @@ no_pools = record { level = 0; pools = record { id = 0; parts = []; extent = no_
 
 abbrev pub offsets_of : Option AnyArena → LevelOffsets
 offsets_of None = no_offsets
-offsets_of (Some (Offsets in_use o)) = o
-offsets_of (Some (Pools in_use p)) = no_offsets
+offsets_of (Some (Offsets idle o)) = o
+offsets_of (Some (Pools idle p)) = no_offsets
 
 abbrev pub pools_of : Option AnyArena → LevelPools
 pools_of None = no_pools
-pools_of (Some (Offsets in_use o)) = no_pools
-pools_of (Some (Pools in_use p)) = p
+pools_of (Some (Offsets idle o)) = no_pools
+pools_of (Some (Pools idle p)) = p

@@ -19,46 +19,46 @@ abbrev pub Kinds : Type 0
 Kinds = KindsOf AnyEnd QueueEnd
 
 abbrev pub post_kind : Kinds → Option PostEnd
-post_kind (end.Post in_use p) = Some p
-post_kind (end.Take in_use t) = None
-post_kind (end.Queue in_use q) = None
-post_kind (end.Poster in_use p) = None
+post_kind (end.Post idle p) = Some p
+post_kind (end.Take idle t) = None
+post_kind (end.Queue idle q) = None
+post_kind (end.Poster idle p) = None
 
 abbrev pub take_kind : Kinds → Option TakeEnd
-take_kind (end.Post in_use p) = None
-take_kind (end.Take in_use t) = Some t
-take_kind (end.Queue in_use q) = None
-take_kind (end.Poster in_use p) = None
+take_kind (end.Post idle p) = None
+take_kind (end.Take idle t) = Some t
+take_kind (end.Queue idle q) = None
+take_kind (end.Poster idle p) = None
 
 abbrev pub queue_kind : Kinds → Option QueueEnd
-queue_kind (end.Post in_use p) = None
-queue_kind (end.Take in_use t) = None
-queue_kind (end.Queue in_use q) = Some q
-queue_kind (end.Poster in_use p) = None
+queue_kind (end.Post idle p) = None
+queue_kind (end.Take idle t) = None
+queue_kind (end.Queue idle q) = Some q
+queue_kind (end.Poster idle p) = None
 
 abbrev pub poster_kind : Kinds → Option PosterEnd
-poster_kind (end.Post in_use p) = None
-poster_kind (end.Take in_use t) = None
-poster_kind (end.Queue in_use q) = None
-poster_kind (end.Poster in_use p) = Some p
+poster_kind (end.Post idle p) = None
+poster_kind (end.Take idle t) = None
+poster_kind (end.Queue idle q) = None
+poster_kind (end.Poster idle p) = Some p
 
-abbrev pub used_kind : Kinds → Bool
-used_kind (end.Post in_use p) = in_use
-used_kind (end.Take in_use t) = in_use
-used_kind (end.Queue in_use q) = in_use
-used_kind (end.Poster in_use p) = in_use
+abbrev pub idle_kind : Kinds → Bool
+idle_kind (end.Post idle p) = idle
+idle_kind (end.Take idle t) = idle
+idle_kind (end.Queue idle q) = idle
+idle_kind (end.Poster idle p) = idle
 
--- a call is using it, where there is one
-abbrev pub is_used : Option AnyEnd → Bool
-is_used None = false
-is_used (Some e) = used_kind (as_kind e)
+-- no call is using it
+abbrev pub is_idle : Option AnyEnd → Bool
+is_idle None = true
+is_idle (Some e) = idle_kind (as_kind e)
 
 -- the same end, that a call is using
 abbrev pub used_as : Kinds → AnyEnd
-used_as (end.Post in_use p) = any.Post true p
-used_as (end.Take in_use t) = any.Take true t
-used_as (end.Queue in_use q) = any.Queue true q
-used_as (end.Poster in_use p) = any.Poster true p
+used_as (end.Post idle p) = any.Post false p
+used_as (end.Take idle t) = any.Take false t
+used_as (end.Queue idle q) = any.Queue false q
+used_as (end.Poster idle p) = any.Poster false p
 
 abbrev pub left_used : Option AnyEnd → Option AnyEnd
 left_used None = None
@@ -96,11 +96,11 @@ StaysOwner old new = KeepsOwner old.owner new.owner × (left_in_end new ≡ left
 
 -- a poster's, that no call is using
 abbrev pub idle_poster : PosterEnd → AnyEnd
-idle_poster p = Poster false p
+idle_poster p = Poster true p
 
 -- it is a poster's, and no call is using it
 abbrev pub IsIdlePoster : AnyEnd → Type 0
-IsIdlePoster e = (is_some (poster_of_end (Some e)) ≡ true) × (is_used (Some e) ≡ false)
+IsIdlePoster e = (is_some (poster_of_end (Some e)) ≡ true) × (is_idle (Some e) ≡ true)
 
 -- the last of the ends that were left is given. Where all that were left are idle posters', so is it, and so are those that are left then
 pub record HasGiven (old new : QueueEnd) (given : AnyEnd) : Type 0 where

@@ -16,7 +16,7 @@ use Rattle.tlsf_post.specs.declared.post.Post.{Post}
 use Rattle.tlsf_post.specs.declared.post_end.PostEnd.{PostEnd}
 use Rattle.tlsf_post.specs.declared.take_end.TakeEnd.{TakeEnd}
 use Rattle.tlsf_c.specs.Counting.{no_counts, recounted}
-use Rattle.tlsf_c.specs.Ends.{is_used, post_of_end, take_of_end}
+use Rattle.tlsf_c.specs.Ends.{is_idle, post_of_end, take_of_end}
 use Rattle.tlsf_c.specs.Levels.{GoesOn, seen_at}
 use Rattle.tlsf_c.specs.Names.{name_of}
 use Rattle.tlsf_c.specs.Refusals.{closed, status_of}
@@ -30,7 +30,7 @@ use Rattle.tlsf_c.specs.declared.end_slot.EndSlot.{EndSlot}
 
 -- an open handle, whose heap no call is using
 abbrev pub serves : HeapSlot → Bool
-serves h = idle_if h.is_open h.inner.value.is_in_use
+serves h = idle_if h.is_open h.inner.value.is_idle
 
 -- the heap of an open handle
 abbrev pub heap_in : HeapSlot → HeapState
@@ -183,7 +183,7 @@ AreEnds None t = ⊥
 
 -- an open handle, whose end no call is using
 abbrev pub end_serves : EndSlot → Bool
-end_serves h = idle_if h.is_open (is_used h.inner.value)
+end_serves h = idle_if h.is_open (is_idle h.inner.value)
 
 -- the end of an open handle, if it is one that puts names into a lane
 abbrev pub post_in : EndSlot → Option PostEnd

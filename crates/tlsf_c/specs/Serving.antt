@@ -1,19 +1,18 @@
 -- Whether a handle serves, and how a call is refused before it begins.
 use Rattle.std.specs.Prelude.{◌≡◌, ℕ, Bool, true, false}
-use Rattle.tlsf_c.specs.Arenas.{is_arena_used}
+use Rattle.tlsf_c.specs.Arenas.{is_arena_idle}
 use Rattle.tlsf_c.specs.Levels.{IsLevel}
 use Rattle.tlsf_c.specs.Refusals as why
 use Rattle.tlsf_c.specs.declared.arena_slot.ArenaSlot.{ArenaSlot}
 
--- by whether it is open, and whether a call is using it
+-- by whether it is open, and whether no call is using it
 abbrev pub idle_if : Bool → Bool → Bool
-idle_if false in_use = false
-idle_if true false = true
-idle_if true true = false
+idle_if false idle = false
+idle_if true idle = idle
 
 -- an open handle, whose arena no call is using
 abbrev pub arena_serves : ArenaSlot → Bool
-arena_serves h = idle_if h.is_open (is_arena_used h.inner.value)
+arena_serves h = idle_if h.is_open (is_arena_idle h.inner.value)
 
 -- a call on a handle that has to serve and to hold one kind. Else it is refused, as Closed or as OtherKind, and the handle stays as
 -- it is. Where the handle serves and holds that kind, the call does this

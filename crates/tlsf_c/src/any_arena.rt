@@ -1,25 +1,25 @@
 //! The content of an arena's handle.
 ghost use Rattle.std.specs.Prelude.{◌≡◌, Some};
-ghost use Rattle.tlsf_c.specs.Arenas.{is_arena_used, left_used_arena, is_offsets, is_pools};
+ghost use Rattle.tlsf_c.specs.Arenas.{is_arena_idle, left_used_arena, is_offsets, is_pools};
 
 use crate::any_offsets::AnyOffsets;
 use crate::any_pools::AnyPools;
 
-/// An arena of offsets, or pools, and whether a call is using it: the note lies beside the kind, as that of an end does.
+/// An arena of offsets, or pools, and whether no call is using it: the note lies beside the kind, as that of an end does.
 #[derive(Drop)]
 pub enum AnyArena {
-    Offsets { is_in_use: bool, owned: AnyOffsets },
-    Pools { is_in_use: bool, owned: AnyPools },
+    Offsets { is_idle: bool, owned: AnyOffsets },
+    Pools { is_idle: bool, owned: AnyPools },
 }
 
 impl AnyArena {
-    /// Whether a call is using it.
+    /// Whether no call is using it.
     #[inline(always)]
-    pub fn is_in_use(&self) -> bool
-        ensures { result ≡ is_arena_used (Some self.now) }
+    pub fn is_idle(&self) -> bool
+        ensures { result ≡ is_arena_idle (Some self.now) }
     {
         match self {
-            AnyArena::Offsets { is_in_use, .. } | AnyArena::Pools { is_in_use, .. } => *is_in_use,
+            AnyArena::Offsets { is_idle, .. } | AnyArena::Pools { is_idle, .. } => *is_idle,
         }
     }
 
@@ -28,8 +28,8 @@ impl AnyArena {
         ensures { Some self.new ≡ left_used_arena (Some self.old) }
     {
         match self {
-            AnyArena::Offsets { is_in_use, .. } => *is_in_use = true,
-            AnyArena::Pools { is_in_use, .. } => *is_in_use = true,
+            AnyArena::Offsets { is_idle, .. } => *is_idle = false,
+            AnyArena::Pools { is_idle, .. } => *is_idle = false,
         }
     }
 

@@ -1,32 +1,32 @@
 //! The content of an end's handle.
 ghost use Rattle.std.specs.Prelude.{◌≡◌, is_some, Some};
-ghost use Rattle.tlsf_c.specs.Ends.{is_used, left_used, post_of_end, take_of_end, queue_of_end, poster_of_end};
+ghost use Rattle.tlsf_c.specs.Ends.{is_idle, left_used, post_of_end, take_of_end, queue_of_end, poster_of_end};
 
 use crate::queue_end::QueueEnd;
 use tlsf_post::{PostEnd, PosterEnd, TakeEnd};
 
-/// An end of a lane or of a queue, and whether a call is using it. The note lies beside the end's kind, in memory that no other
+/// An end of a lane or of a queue, and whether no call is using it. The note lies beside the end's kind, in memory that no other
 /// thread reads. So a call writes nothing in the handle, and what other threads read beside that stays in their caches.
 #[cycle(ends)]
 #[derive(Drop)]
 pub enum AnyEnd {
-    Post { is_in_use: bool, end: PostEnd },
-    Take { is_in_use: bool, end: TakeEnd },
-    Queue { is_in_use: bool, end: QueueEnd },
-    Poster { is_in_use: bool, end: PosterEnd },
+    Post { is_idle: bool, end: PostEnd },
+    Take { is_idle: bool, end: TakeEnd },
+    Queue { is_idle: bool, end: QueueEnd },
+    Poster { is_idle: bool, end: PosterEnd },
 }
 
 impl AnyEnd {
-    /// Whether a call is using it.
+    /// Whether no call is using it.
     #[inline(always)]
-    pub fn is_in_use(&self) -> bool
-        ensures { result ≡ is_used (Some self.now) }
+    pub fn is_idle(&self) -> bool
+        ensures { result ≡ is_idle (Some self.now) }
     {
         match self {
-            AnyEnd::Post { is_in_use, .. }
-            | AnyEnd::Take { is_in_use, .. }
-            | AnyEnd::Queue { is_in_use, .. }
-            | AnyEnd::Poster { is_in_use, .. } => *is_in_use,
+            AnyEnd::Post { is_idle, .. }
+            | AnyEnd::Take { is_idle, .. }
+            | AnyEnd::Queue { is_idle, .. }
+            | AnyEnd::Poster { is_idle, .. } => *is_idle,
         }
     }
 
@@ -35,10 +35,10 @@ impl AnyEnd {
         ensures { Some self.new ≡ left_used (Some self.old) }
     {
         match self {
-            AnyEnd::Post { is_in_use, .. } => *is_in_use = true,
-            AnyEnd::Take { is_in_use, .. } => *is_in_use = true,
-            AnyEnd::Queue { is_in_use, .. } => *is_in_use = true,
-            AnyEnd::Poster { is_in_use, .. } => *is_in_use = true,
+            AnyEnd::Post { is_idle, .. } => *is_idle = false,
+            AnyEnd::Take { is_idle, .. } => *is_idle = false,
+            AnyEnd::Queue { is_idle, .. } => *is_idle = false,
+            AnyEnd::Poster { is_idle, .. } => *is_idle = false,
         }
     }
 

@@ -13,12 +13,12 @@ use std::{mem, ptr};
 /// ```
 macro_rules! on_arena {
     ($slot:ident, $kind:ident, $owned:ident => $call:expr) => {{
-        let $crate::any_arena::AnyArena::$kind { is_in_use, owned: $owned } = $slot.inner.lend() else {
+        let $crate::any_arena::AnyArena::$kind { is_idle, owned: $owned } = $slot.inner.lend() else {
             return $crate::call_fault::CallFault::OtherKind.refusal();
         };
-        *is_in_use = true;
+        *is_idle = false;
         let answer = $call;
-        *is_in_use = false;
+        *is_idle = true;
         answer
     }};
 }
@@ -35,7 +35,7 @@ pub struct ArenaSlot {
 }
 
 impl ArenaSlot {
-    ghost use Rattle.tlsf_c.specs.Arenas.{is_arena_used, left_used_arena};
+    ghost use Rattle.tlsf_c.specs.Arenas.{is_arena_idle, left_used_arena};
     ghost use Rattle.tlsf_c.specs.Serving.{arena_serves};
 
     /// Whether it is open, and no call is using it.
@@ -43,11 +43,11 @@ impl ArenaSlot {
     pub fn serves(&mut self) -> bool
         ensures serves { result ≡ arena_serves self.old }
         ensures open { result ≡ true → self.old.is_open ≡ true }
-        ensures idle { result ≡ true → is_arena_used self.old.inner.value ≡ false }
+        ensures idle { result ≡ true → is_arena_idle self.old.inner.value ≡ true }
         ensures same { self.new ≡ self.old }
     {
         // As in `HeapSlot::serves`.
-        u8::from(self.is_open) != 0 && u8::from(self.inner.lend().is_in_use()) == 0
+        u8::from(self.is_open) != 0 && u8::from(self.inner.lend().is_idle()) != 0
     }
 
     /// Takes out what is there, and leaves the place closed. A place that is closed or in use stays as it is: a signal handler interrupts

@@ -39,10 +39,10 @@ pub extern "C" fn tlsf_check_around(heap: &mut HeapSlot, at: u32, damaged: &mut 
     }
     // By hand: by `on_heap` the compiler writes the look twice.
     let held = heap.inner.lend();
-    held.is_in_use = true;
+    held.is_idle = false;
     let owned = &mut held.heap;
     let found = owned.check_around(at);
-    held.is_in_use = false;
+    held.is_idle = true;
     let mut next = 0;
     check_status(found, &mut next, damaged)
 }

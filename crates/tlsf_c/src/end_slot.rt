@@ -13,12 +13,12 @@ use std::{mem, ptr};
 /// ```
 macro_rules! on_end {
     ($slot:ident, $kind:ident, $end:ident => $call:expr) => {{
-        let $crate::any_end::AnyEnd::$kind { is_in_use, end: $end } = $slot.inner.lend() else {
+        let $crate::any_end::AnyEnd::$kind { is_idle, end: $end } = $slot.inner.lend() else {
             return $crate::call_fault::CallFault::OtherKind.refusal();
         };
-        *is_in_use = true;
+        *is_idle = false;
         let answer = $call;
-        *is_in_use = false;
+        *is_idle = true;
         answer
     }};
 }
@@ -35,7 +35,7 @@ pub struct EndSlot {
 }
 
 impl EndSlot {
-    ghost use Rattle.tlsf_c.specs.Ends.{is_used, left_used};
+    ghost use Rattle.tlsf_c.specs.Ends.{is_idle, left_used};
     ghost use Rattle.tlsf_c.specs.Handles.{end_serves};
 
     /// Whether it is open, and no call is using it.
@@ -43,11 +43,11 @@ impl EndSlot {
     pub fn serves(&mut self) -> bool
         ensures serves { result ≡ end_serves self.old }
         ensures open { result ≡ true → self.old.is_open ≡ true }
-        ensures idle { result ≡ true → is_used self.old.inner.value ≡ false }
+        ensures idle { result ≡ true → is_idle self.old.inner.value ≡ true }
         ensures same { self.new ≡ self.old }
     {
         // As in `HeapSlot::serves`.
-        u8::from(self.is_open) != 0 && u8::from(self.inner.lend().is_in_use()) == 0
+        u8::from(self.is_open) != 0 && u8::from(self.inner.lend().is_idle()) != 0
     }
 
     /// Takes out what is there, and leaves the place closed. A place that is closed or in use stays as it is: a signal handler interrupts

@@ -15,10 +15,10 @@ use std::{mem, ptr};
 macro_rules! on_heap {
     ($slot:ident, $owned:ident => $call:expr) => {{
         let held = $slot.inner.lend();
-        held.is_in_use = true;
+        held.is_idle = false;
         let $owned = &mut held.heap;
         let answer = $call;
-        held.is_in_use = false;
+        held.is_idle = true;
         answer
     }};
 }
@@ -51,11 +51,11 @@ impl HeapSlot {
     pub fn serves(&mut self) -> bool
         ensures serves { result ≡ serves self.old }
         ensures open { result ≡ true → self.old.is_open ≡ true }
-        ensures idle { result ≡ true → self.old.inner.value.is_in_use ≡ false }
+        ensures idle { result ≡ true → self.old.inner.value.is_idle ≡ true }
         ensures same { self.new ≡ self.old }
     {
         // As numbers, which a processor compares with 0: `true` is a constant to it.
-        u8::from(self.is_open) != 0 && u8::from(self.inner.lend().is_in_use) == 0
+        u8::from(self.is_open) != 0 && u8::from(self.inner.lend().is_idle) != 0
     }
 
     /// Notes a block of `len` bytes, as `note_odd`.
@@ -76,14 +76,14 @@ impl HeapSlot {
         ensures closed { serves self.new ≡ false }
         ensures beside { KeepsBeside self.old self.new }
         ensures none { result ≡ None → (serves self.old ≡ false) × (self.new ≡ self.old) }
-        ensures some { (b : _) → result ≡ Some b → (serves self.old ≡ true) × (self.new.is_open ≡ false) × (b.value ≡ record (self.old.inner.value) { is_in_use = true }) }
+        ensures some { (b : _) → result ≡ Some b → (serves self.old ≡ true) × (self.new.is_open ≡ false) × (b.value ≡ record (self.old.inner.value) { is_idle = false }) }
     {
         if !self.serves() {
             return None;
         }
         let nowhere: *mut u8 = ptr::null_mut();
         self.is_open = false;
-        self.inner.lend().is_in_use = true;
+        self.inner.lend().is_idle = false;
         let inner = mem::replace(&mut self.inner, BoxedHeap::empty(alloc, nowhere));
         Some(inner.into_box())
     }
@@ -91,7 +91,7 @@ impl HeapSlot {
     /// Puts a heap that no call is using into a closed place.
     pub fn put_in(&mut self, boxed: Box<HeldHeap, Global>)
         requires closed { self.old.is_open ≡ false }
-        requires idle { boxed.value.is_in_use ≡ false }
+        requires idle { boxed.value.is_idle ≡ true }
         ensures open { serves self.new ≡ true }
         ensures beside { KeepsBeside self.old self.new }
         ensures value { self.new.inner.value ≡ boxed.value }

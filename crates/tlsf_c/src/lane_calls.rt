@@ -73,7 +73,7 @@ pub extern "C" fn tlsf_lane_open(
     let Ok(post_box) = Box::new(
         alloc,
         AnyEnd::Post {
-            is_in_use: false,
+            is_idle: true,
             end: post_end,
         },
     ) else {
@@ -82,7 +82,7 @@ pub extern "C" fn tlsf_lane_open(
     let Ok(take_box) = Box::new(
         alloc,
         AnyEnd::Take {
-            is_in_use: false,
+            is_idle: true,
             end: take_end,
         },
     ) else {

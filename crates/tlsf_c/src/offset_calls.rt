@@ -54,7 +54,7 @@ pub extern "C" fn tlsf_offsets_open(
         Ok(opened) => match Box::new(
             alloc,
             AnyArena::Offsets {
-                is_in_use: false,
+                is_idle: true,
                 owned: opened,
             },
         ) {

@@ -155,7 +155,7 @@ pub extern "C" fn tlsf_place(
     ensures kept { ¬ (result ≡ 0) → (name.new ≡ name.old) × (len.new ≡ len.old) }
 {
     if !heap.serves() {
-        return CallFault::Closed.number();
+        return CallFault::Closed.refusal();
     }
     let (id, found) = on_heap!(heap, owned => (owned.id(), owned.block_at(at)));
     match found {
@@ -193,7 +193,7 @@ pub extern "C" fn tlsf_block_at(heap: &mut HeapSlot, at: u32, block: &mut BlockI
     ensures kept { ¬ (result ≡ 0) → block.new ≡ block.old }
 {
     if !heap.serves() {
-        return CallFault::Closed.number();
+        return CallFault::Closed.refusal();
     }
     let found = on_heap!(heap, owned => owned.block_at(at));
     match found {

@@ -73,7 +73,7 @@ pub extern "C" fn tlsf_pools_open(
         Ok(opened) => match Box::new(
             alloc,
             AnyArena::Pools {
-                is_in_use: false,
+                is_idle: true,
                 owned: opened,
             },
         ) {

@@ -47,13 +47,7 @@ pub extern "C" fn tlsf_queue_open(
     let Ok(end) = QueueEnd::open(alloc, posters, capacity) else {
         return CallFault::NoMemory.number();
     };
-    let Ok(owned) = Box::new(
-        alloc,
-        AnyEnd::Queue {
-            is_in_use: false,
-            end,
-        },
-    ) else {
+    let Ok(owned) = Box::new(alloc, AnyEnd::Queue { is_idle: true, end }) else {
         return CallFault::NoMemory.number();
     };
     queue.put_in(owned);

@@ -40,13 +40,7 @@ fn boxed(alloc: Global, ends: Vec<PosterEnd>) -> Result<Vec<Box<AnyEnd, Global>>
 {
     let mut boxes = Vec::with_capacity(alloc, ends.len())?;
     for end in ends {
-        let Ok(owned) = Box::new(
-            alloc,
-            AnyEnd::Poster {
-                is_in_use: false,
-                end,
-            },
-        ) else {
+        let Ok(owned) = Box::new(alloc, AnyEnd::Poster { is_idle: true, end }) else {
             return Err(NoMemory);
         };
         boxes.push_reserved(owned);

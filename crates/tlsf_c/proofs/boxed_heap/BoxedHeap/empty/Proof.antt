@@ -29,7 +29,7 @@ empty_spec 𝓤 𝓛 𝓜 𝓡 wired =
     let Post = (walk_of 𝓛 F.ended stayed c).post z in
     let a = z.0.3.0 in let p = z.0.3.1.0 in let us = z.0.4.0 in let vs = z.0.4.1.0 in
     let To = type_at (F.signature).result tt in
-    let made : To.Denot = record { at = p; alloc = a; full = false; value = record { is_in_use = false; heap = record { level = 0; heap = record { id = 0; words = 0; tick = 0; blocks = [] }; stored = record { words = []; starts = [] }; extents = record { words = record { address = p; capacity = 0 }; starts = record { address = p; capacity = 0 } }; touches = 0; touched = []; counts = no_counts } } } in
+    let made : To.Denot = record { at = p; alloc = a; full = false; value = record { is_idle = false; heap = record { level = 0; heap = record { id = 0; words = 0; tick = 0; blocks = [] }; stored = record { words = []; starts = [] }; extents = record { words = record { address = p; capacity = 0 }; starts = record { address = p; capacity = 0 } }; touches = 0; touched = []; counts = no_counts } } } in
     qed 𝓛 ((‵ ftrue ⊛ ‵ (owns (Heap.the_row ∷ RawPtr ∷ []) (a, (p, tt)) (us, (vs, tt)))) ∷ raw (emp 𝓤) ∷ []) ∵ split ! $ drop ! $ fsplit ! $
     handle_tells E.al ! a us (λ hv ea fa. move ! (1 ∷ 0 ∷ []) $ fsplit ! $ feq_l ! (λ ev. move ! (0 ∷ 1 ∷ []) $
     let v : Val = both p hv in
