@@ -238,7 +238,11 @@ void *tlsf_memory_move(void *to, const void *from, size_t n) { return memmove(to
 
 /* --- What is opened in memory of the caller's ---------------------------------------------------------------------- */
 
+#ifdef TLSF_ONE_LEVEL /* of a library of level 4 alone */
+static size_t most_words(uint32_t level) { return level == 4 ? 1u << 20 : 0; }
+#else
 static size_t most_words(uint32_t level) { return level == 4 ? 1u << 20 : level == 5 ? 1u << 24 : 0; }
+#endif
 
 /* The bytes of the bits for so many words. */
 static size_t bits_bytes(size_t words) { return (words + 63) / 64 * 8; }

@@ -189,42 +189,50 @@ enum tlsf_answer {
     TLSF_OTHER_KIND = 40   /* the handle holds something of another kind, as a post end's does that was cast to a take end's */
 };
 
+/* What the proved calls read and write lies where it lies on 64 bits, on processors of 32 bits too: there a pointer in a handle has the first
+ * half of 8 bytes, and what comes behind it begins at the next 8. */
+#ifdef __cplusplus
+#define TLSF_AT_8 alignas(8)
+#else
+#define TLSF_AT_8 _Alignas(8)
+#endif
+
 /* Handles. Their fields are the library's own. Calls that open or close write them, and of the others only the one that notes the
  * first block by name of an odd number of words. */
 struct tlsf_heap {
-    void *held;
-    bool is_open;
-    uint64_t *base;  /* the region's first word, which is 8 bytes behind a multiple of 16 */
-    uint32_t number; /* of the names of its blocks */
-    bool is_mixed;   /* a block by name has had an odd number of words since the heap was opened */
+    TLSF_AT_8 void *held;
+    TLSF_AT_8 bool is_open;
+    TLSF_AT_8 uint64_t *base;  /* the region's first word, which is 8 bytes behind a multiple of 16 */
+    TLSF_AT_8 uint32_t number; /* of the names of its blocks */
+    bool is_mixed;             /* a block by name has had an odd number of words since the heap was opened */
 };
 /* A handle with the fields of the heap itself behind it, from the first multiple of 64 bytes on. tlsf_near finds the handle. */
 struct tlsf_near_heap {
     unsigned char room[2880];
 };
 struct tlsf_post_end {
-    void *held;
-    bool is_open;
+    TLSF_AT_8 void *held;
+    TLSF_AT_8 bool is_open;
 };
 struct tlsf_take_end {
-    void *held;
-    bool is_open;
+    TLSF_AT_8 void *held;
+    TLSF_AT_8 bool is_open;
 };
 struct tlsf_queue {
-    void *held;
-    bool is_open;
+    TLSF_AT_8 void *held;
+    TLSF_AT_8 bool is_open;
 };
 struct tlsf_poster {
-    void *held;
-    bool is_open;
+    TLSF_AT_8 void *held;
+    TLSF_AT_8 bool is_open;
 };
 struct tlsf_offsets {
-    void *held;
-    bool is_open;
+    TLSF_AT_8 void *held;
+    TLSF_AT_8 bool is_open;
 };
 struct tlsf_pools {
-    void *held;
-    bool is_open;
+    TLSF_AT_8 void *held;
+    TLSF_AT_8 bool is_open;
 };
 
 /* Handles that aren't open, to begin with and to assign: `struct tlsf_heap heap = TLSF_CLOSED;`, `heap = TLSF_CLOSED;`. A
@@ -338,7 +346,7 @@ struct tlsf_offsets_usage {
 /* A row of a table of kinds: how many blocks of that kind are held at once, and how many bytes each has, at most. */
 struct tlsf_kind {
     uint32_t most;
-    size_t len;
+    uint64_t len;
 };
 
 /* --- A heap ------------------------------------------------------------------------------------------------------- */

@@ -6,6 +6,9 @@
 #if defined(__cplusplus) && defined(TLSF_GNU)
 #pragma GCC diagnostic push
 #pragma GCC diagnostic ignored "-Wold-style-cast"
+#ifndef __clang__ /* with 32 bits some types are the same */
+#pragma GCC diagnostic ignored "-Wuseless-cast"
+#endif
 #endif
 
 /* What fills and copies, by no header: string.h is the C library's, and may be missing. */
@@ -42,6 +45,49 @@
 #ifdef __cplusplus
 extern "C" {
 #endif
+
+/* Where the proved calls find what the header's structs have. */
+#ifdef __cplusplus
+#define TLSF_LIES(kind, field, byte) static_assert(offsetof(struct kind, field) == byte, #kind " lies otherwise than the calls find it")
+#define TLSF_TAKES(kind, bytes) static_assert(sizeof(struct kind) == bytes, #kind " lies otherwise than the calls find it")
+#else
+#define TLSF_LIES(kind, field, byte) _Static_assert(offsetof(struct kind, field) == byte, #kind " lies otherwise than the calls find it")
+#define TLSF_TAKES(kind, bytes) _Static_assert(sizeof(struct kind) == bytes, #kind " lies otherwise than the calls find it")
+#endif
+TLSF_LIES(tlsf_heap, is_open, 8);
+TLSF_LIES(tlsf_heap, base, 16);
+TLSF_LIES(tlsf_heap, number, 24);
+TLSF_LIES(tlsf_heap, is_mixed, 28);
+TLSF_TAKES(tlsf_heap, 32);
+TLSF_LIES(tlsf_post_end, is_open, 8);
+TLSF_TAKES(tlsf_post_end, 16);
+TLSF_LIES(tlsf_take_end, is_open, 8);
+TLSF_TAKES(tlsf_take_end, 16);
+TLSF_LIES(tlsf_queue, is_open, 8);
+TLSF_TAKES(tlsf_queue, 16);
+TLSF_LIES(tlsf_poster, is_open, 8);
+TLSF_TAKES(tlsf_poster, 16);
+TLSF_LIES(tlsf_offsets, is_open, 8);
+TLSF_TAKES(tlsf_offsets, 16);
+TLSF_LIES(tlsf_pools, is_open, 8);
+TLSF_TAKES(tlsf_pools, 16);
+TLSF_LIES(tlsf_name, serial, 8);
+TLSF_TAKES(tlsf_name, 16);
+TLSF_LIES(tlsf_placed, serial, 8);
+TLSF_TAKES(tlsf_placed, 16);
+TLSF_LIES(tlsf_heap_report, age, 40);
+TLSF_TAKES(tlsf_heap_report, 48);
+TLSF_TAKES(tlsf_heap_counts, 16);
+TLSF_LIES(tlsf_block_info, mark, 16);
+TLSF_TAKES(tlsf_block_info, 24);
+TLSF_LIES(tlsf_span, offset, 16);
+TLSF_TAKES(tlsf_span, 32);
+TLSF_LIES(tlsf_offsets_usage, held, 8);
+TLSF_TAKES(tlsf_offsets_usage, 32);
+TLSF_LIES(tlsf_kind, len, 8);
+TLSF_TAKES(tlsf_kind, 16);
+#undef TLSF_LIES
+#undef TLSF_TAKES
 
 #define TLSF_LONGEST (UINT64_C(1) << 27) /* no region has so many bytes */
 
