@@ -97,6 +97,21 @@ long_for_aarch64() {
     turned_round aarch64
 }
 
+# The library for armv7, where each store of a pointer fills the other half of its place. Whoever reads that is led astray.
+poisoned_for_armhf() {
+    holds "the library for armv7 with poison" put_poison
+    [ -s "$work/poisoned.o" ] || return
+    with=" on armv7 with poison"
+    c_work a -std=c11
+    cpp_work a
+}
+
+put_poison() {
+    tools/port "$work/libtlsf_c.a.ll" armv7 "$work/poisoned.s" --poison && notices cmp -s dist/library-armv7.s "$work/poisoned.s" &&
+        $cc -DTLSF_ONLY_CALLS -c -x assembler-with-cpp "$work/poisoned.s" -o "$work/poisoned.o" &&
+        tool ar d "$archive" calls.o && tool ar q "$archive" "$work/poisoned.o"
+}
+
 turned_round() { # turned_round PROCESSOR: branches of the library, in dist/
     holds "branches that are turned round$with" tests/c/turned dist "$1" 100
     tail -n 1 "$work/out" >&2
@@ -110,4 +125,5 @@ take_long() {
     beside_archive --long
     turned_round x86_64
     ! put_for_aarch64 || long_for_aarch64
+    ! put_for_armhf || poisoned_for_armhf
 }

@@ -1,6 +1,6 @@
 /* A program with no C library: it links libpeachanchor_nomalloc.a, three functions of its own that fill and copy, and nothing else. It
  * allocates, writes, frees and closes in a static array, and ends with 0 where all is as it should be.
- * Build with -nostdlib -static -O2, for x86-64, aarch64 or riscv64 Linux. */
+ * Build with -nostdlib -static -O2, for x86-64, aarch64, armv7 or riscv64 Linux. */
 #include "peachanchor.h"
 
 static _Alignas(16) unsigned char memory[1 << 16];
@@ -56,6 +56,27 @@ static void own_variables(void) {
 }
 void *__tls_get_addr(const size_t *place);
 void *__tls_get_addr(const size_t *place) { return own + place[1] + 2048; }
+#define BEGINS
+#elif defined(__arm__)
+/* It doesn't come back, so r7 is nobody's. */
+static void end(int status) {
+    register long first __asm__("r0") = status;
+    __asm__ volatile("mov r7, #1\n\tsvc 0" : : "r"(first) : "memory");
+}
+
+static void own_variables(void) {}
+void *__tls_get_addr(const size_t *place);
+void *__tls_get_addr(const size_t *place) {
+    static _Alignas(16) unsigned char own[256];
+    return own + place[1];
+}
+
+/* libgcc's division calls it where the divisor is 0. */
+int raise(int number);
+int raise(int number) {
+    end(number);
+    return 0;
+}
 #define BEGINS
 #else
 static void end(int status) {

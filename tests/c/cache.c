@@ -211,8 +211,7 @@ static void freed_twice(void) {
 }
 
 static void sizes_that_wrap(void) {
-    static const size_t too_long[] = {SIZE_MAX,        SIZE_MAX - 6,          SIZE_MAX - 7,         SIZE_MAX / 2 + 1,
-                                      (size_t)1 << 32, ((size_t)1 << 32) + 8, ((size_t)1 << 27) + 1};
+    static const size_t too_long[] = {SIZE_MAX, SIZE_MAX - 6, SIZE_MAX - 7, SIZE_MAX / 2 + 1, PAST_32, PAST_32 + 8, ((size_t)1 << 27) + 1};
     open_with(4000);
     void *const p = get(8), *const q = get(8);
     end(q);

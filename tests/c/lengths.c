@@ -16,8 +16,13 @@ static size_t any_long(void) {
     switch (below(4)) {
     case 0: return SIZE_MAX - below(3000);
     case 1: return UINT32_MAX - below(3000);
+#if SIZE_MAX > UINT32_MAX
     case 2: return ((size_t)1 << 32) * (1 + below(1000)) + cut;
     default: return ((size_t)1 << (32 + below(32))) + cut;
+#else
+    case 2: return ((size_t)1 << 29) * (1 + below(7)) + cut;
+    default: return ((size_t)1 << (28 + below(4))) + cut;
+#endif
     }
 }
 

@@ -61,9 +61,9 @@ void __wrap_free(void *p) {
     __real_free(p);
 }
 
-static void wants(const char *what, size_t got, size_t wanted) {
+static void wants(const char *what, uint64_t got, uint64_t wanted) {
     if (got == wanted) return;
-    printf("%s: %zu, and not %zu\n", what, got, wanted);
+    printf("%s: %llu, and not %llu\n", what, (unsigned long long)got, (unsigned long long)wanted);
     exit(1);
 }
 

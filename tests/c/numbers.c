@@ -57,7 +57,7 @@ static void of_heaps(void) {
     wants("a block", tlsf_allocate(&heap, 8, &of_heap), TLSF_OK);
     wants("to the pools", tlsf_pools_release(&pools, of_heap), TLSF_FOREIGN);
     for (size_t k = 0; k < 3; k++) {
-        wants("a block of a pool", tlsf_pools_allocate(&pools, rows[k].len - below(8), &name), TLSF_OK);
+        wants("a block of a pool", tlsf_pools_allocate(&pools, (size_t)rows[k].len - below(8), &name), TLSF_OK);
         wants("to the heap", tlsf_release(&heap, name), TLSF_FOREIGN);
     }
     wants("close", tlsf_pools_close(&pools) + tlsf_close(&heap), TLSF_OK);

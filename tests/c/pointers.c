@@ -162,7 +162,7 @@ static unsigned char *wild(struct model *m, struct model *other, struct block *b
     case 3: return p + 1 + below(7);
     case 4: return other->blocks[below(MOST)].p;
     case 5: return (unsigned char *)m->heap.base + 8 * (uintptr_t)WORDS + below(4096);
-    case 6: return (unsigned char *)(((uintptr_t)below(1u << 30) << 33) + below(64));
+    case 6: return (unsigned char *)(((uintptr_t)below(1u << 30) << (8 * sizeof p - 31)) + below(64));
     default: return m->gone[below(MOST)];
     }
 }
@@ -186,7 +186,7 @@ static void refuse_wild(struct model *m, struct model *other, struct block *b) {
 }
 
 static void refuse_sizes(struct model *m, void *live) {
-    static const size_t too_long[] = {SIZE_MAX, SIZE_MAX - 7, SIZE_MAX / 2, (size_t)1 << 32, ((size_t)1 << 32) + 8, ((size_t)1 << 27) + 1};
+    static const size_t too_long[] = {SIZE_MAX, SIZE_MAX - 7, SIZE_MAX / 2, PAST_32, PAST_32 + 8, ((size_t)1 << 27) + 1};
     const size_t len = too_long[below(6)];
     struct tlsf_name name = {9, 9, 9};
     void *p = NULL;

@@ -46,7 +46,7 @@ static void write_all(struct held *it) {
     for (uint32_t i = 0; i < rows[it->row].len; i++) it->at[i] = it->bytes[i] = (uint8_t)below(256);
 }
 
-static void reads_all(const struct held *it) { wants("its bytes", (size_t)memcmp(it->at, it->bytes, rows[it->row].len), 0); }
+static void reads_all(const struct held *it) { wants("its bytes", (size_t)memcmp(it->at, it->bytes, (size_t)rows[it->row].len), 0); }
 
 static void one_malloc(struct tlsf_pools *pools) {
     const uint32_t len = any_len(), row = row_of(len);
@@ -173,12 +173,12 @@ static void refusals(struct tlsf_pools *pools) {
     uint8_t *const at = tlsf_pools_malloc(pools, 20);
     wants("a block", at != NULL, 1);
     wants("longer than each row", tlsf_pools_malloc(pools, LONGEST + 1) == NULL, 1);
-    wants("longer than 32 bits", tlsf_pools_malloc(pools, ((size_t)1 << 32) + 16) == NULL, 1);
+    wants("longer than 32 bits", tlsf_pools_malloc(pools, PAST_32 + 16) == NULL, 1);
     volatile size_t longest = SIZE_MAX; /* which gcc warns of */
     wants("the longest", tlsf_pools_malloc(pools, longest) == NULL, 1);
     wants("of a row that has none", tlsf_pools_malloc(pools, 80) == NULL, 1);
     wants("realloc to more than each row", tlsf_pools_realloc(pools, at, LONGEST + 1) == NULL, 1);
-    wants("realloc past 32 bits", tlsf_pools_realloc(pools, at, ((size_t)1 << 32) + 16) == NULL, 1);
+    wants("realloc past 32 bits", tlsf_pools_realloc(pools, at, PAST_32 + 16) == NULL, 1);
     wants("it is there", tlsf_pools_usable_size(pools, at), rows[0].len);
     wants("null", tlsf_pools_free(pools, NULL), TLSF_OK);
     wants("null has no size", tlsf_pools_usable_size(pools, NULL), 0);
@@ -222,7 +222,7 @@ static void parts(struct tlsf_pools *pools, uint32_t heaps) {
         wants("a row", tlsf_pools_row(pools, len, &n), row < ROWS ? TLSF_OK : TLSF_BAD_SIZE);
         wants("its bytes", n, row < ROWS ? rows[row].len : LONGEST);
     }
-    wants("a row past 32 bits", tlsf_pools_row(pools, ((size_t)1 << 32) + 16, &n), TLSF_BAD_SIZE);
+    wants("a row past 32 bits", tlsf_pools_row(pools, PAST_32 + 16, &n), TLSF_BAD_SIZE);
     wants("a block by name", tlsf_pools_allocate(pools, 150, &name), TLSF_OK);
     wants("its place", tlsf_pools_place(pools, name.heap - NUMBER, name.at, &name, &n), TLSF_OK);
     wants("its length", n, 150);
@@ -284,10 +284,10 @@ static void fill_all(struct tlsf_pools *pools, const struct tlsf_kind *kinds, si
         uint32_t blocks = 0;
         for (size_t k = n; k-- > 0;)
             for (uint32_t i = 0; i < kinds[k].most; i++) {
-                wants("a block of a row", (all[blocks] = tlsf_pools_malloc(pools, kinds[k].len)) != NULL, 1);
-                memset(all[blocks++], 0xc3, kinds[k].len);
+                wants("a block of a row", (all[blocks] = tlsf_pools_malloc(pools, (size_t)kinds[k].len)) != NULL, 1);
+                memset(all[blocks++], 0xc3, (size_t)kinds[k].len);
             }
-        for (size_t k = 0; k < n; k++) wants("one more", tlsf_pools_malloc(pools, kinds[k].len) == NULL, 1);
+        for (size_t k = 0; k < n; k++) wants("one more", tlsf_pools_malloc(pools, (size_t)kinds[k].len) == NULL, 1);
         for (uint32_t i = 0; i < blocks; i++) wants("free", tlsf_pools_free(pools, all[i]), TLSF_OK);
     }
 }

@@ -100,7 +100,7 @@ static bool has_all(const uint8_t *at, uint8_t byte, size_t from, size_t to) {
 
 /* A block of a row came: all bytes of it, of which the first `n` are those of another block that moved here. */
 static void take_in(struct block *it, uint8_t *at, uint32_t row, size_t n) {
-    const size_t len = rows[row].len;
+    const size_t len = (size_t)rows[row].len;
     wants("a block", at != NULL, 1);
     wants("the bytes that came along", has_all(at, it->fill, 0, n) && has_all(at, 0, n, len), 1);
     it->at = at;
@@ -114,9 +114,9 @@ static void give_all(void) {
     for (uint32_t row = 0; row < row_count; row++)
         for (uint32_t k = 0; k < rows[row].most; k++) {
             wants("room in the table", count < MOST, 1);
-            take_in(&blocks[count++], tlsf_pools_malloc(&pools, rows[row].len), row, 0);
+            take_in(&blocks[count++], tlsf_pools_malloc(&pools, (size_t)rows[row].len), row, 0);
         }
-    for (uint32_t row = 0; row < row_count; row++) wants("a row that is full", tlsf_pools_malloc(&pools, rows[row].len) == NULL, 1);
+    for (uint32_t row = 0; row < row_count; row++) wants("a row that is full", tlsf_pools_malloc(&pools, (size_t)rows[row].len) == NULL, 1);
 }
 
 /* While all rows are full: what each block says by its pointer, and where it stays. */
@@ -134,13 +134,13 @@ static void look_at(const struct block *it) {
     wants("read by name", tlsf_pools_read(&pools, name, len - 1, &last, 1), TLSF_OK);
     wants("the last byte", last, it->fill);
     wants("in its row it stays", tlsf_pools_realloc(&pools, it->at, shortest + below(len - shortest + 1)) == it->at, 1);
-    if (other != it->row) wants("no other has a place", tlsf_pools_realloc(&pools, it->at, rows[other].len) == NULL, 1);
+    if (other != it->row) wants("no other has a place", tlsf_pools_realloc(&pools, it->at, (size_t)rows[other].len) == NULL, 1);
 }
 
 /* Takes the place of a block in another row, which takes this one's. So all rows are full again. */
 static void trade(struct block *it, struct block *other) {
     const uint32_t from = it->row, to = other->row;
-    const size_t had = rows[from].len, has = rows[to].len;
+    const size_t had = (size_t)rows[from].len, has = (size_t)rows[to].len;
     if (from == to) return;
     wants("free", tlsf_pools_free(&pools, other->at), TLSF_OK);
     take_in(it, tlsf_pools_realloc(&pools, it->at, has), to, had < has ? had : has);
@@ -179,7 +179,9 @@ static void refuse_of_blocks(uint32_t from) {
             for (uint32_t other = 0; other < part_count; other++) refuse(at - base + (uintptr_t)bases[other]);
         }
         for (uintptr_t bytes = 1; bytes <= 24; bytes++) refuse(at + bytes), refuse(at - bytes);
+#if UINTPTR_MAX > UINT32_MAX
         refuse(at + ((uintptr_t)1 << 35)), refuse(at - ((uintptr_t)1 << 35)); /* as far as a place has numbers */
+#endif
     }
 }
 

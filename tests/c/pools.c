@@ -21,7 +21,7 @@ static void refusals_of_opening(void) {
     wants("rows that fall", tlsf_pools_open(&pools, 4, 1, (struct tlsf_kind[]){{10, 100}, {10, 50}}, 2), TLSF_BAD_SIZE);
     wants("a length twice", tlsf_pools_open(&pools, 4, 1, (struct tlsf_kind[]){{1, 8}, {1, 50}, {1, 50}}, 3), TLSF_BAD_SIZE);
     wants("no region so large", tlsf_pools_open(&pools, 4, 1, &(struct tlsf_kind){UINT32_MAX, 8}, 1), TLSF_BAD_SIZE);
-    wants("a length past 32 bits", tlsf_pools_open(&pools, 4, 1, &(struct tlsf_kind){1, ((size_t)1 << 32) + 16}, 1), TLSF_BAD_SIZE);
+    wants("a length past 32 bits", tlsf_pools_open(&pools, 4, 1, &(struct tlsf_kind){1, PAST_32 + 16}, 1), TLSF_BAD_SIZE);
     wants("the last numbers", tlsf_pools_open(&pools, 4, UINT32_MAX - 7, many, 64), TLSF_OK);
     wants("open twice", tlsf_pools_open(&pools, 9, UINT32_MAX, rows, 70), TLSF_IN_USE);
     wants("close", tlsf_pools_close(&pools), TLSF_OK);
@@ -66,7 +66,7 @@ static void refusals_of_calls(void) {
     wants("report where closed", tlsf_pools_report(&pools, 0, &report), TLSF_IS_CLOSED);
     wants("open", tlsf_pools_open(&pools, 4, NUMBER, (struct tlsf_kind[]){{1, 16}, {2, 4000}}, 2), TLSF_OK);
     wants("longer than each row", tlsf_pools_allocate(&pools, 4001, &name), TLSF_BAD_SIZE);
-    wants("longer than 32 bits", tlsf_pools_allocate(&pools, ((size_t)1 << 32) + 16, &name), TLSF_BAD_SIZE);
+    wants("longer than 32 bits", tlsf_pools_allocate(&pools, PAST_32 + 16, &name), TLSF_BAD_SIZE);
     wants("release of another's", tlsf_pools_release(&pools, name), TLSF_FOREIGN);
     wants("write of another's", tlsf_pools_write(&pools, name, 0, bytes, 4), TLSF_FOREIGN);
     wants("read of another's", tlsf_pools_read(&pools, name, 0, out, 4), TLSF_FOREIGN);

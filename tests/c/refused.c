@@ -145,8 +145,9 @@ static void close_pools(void) {
     const struct tlsf_kind *const rows = tables[table].rows;
     struct tlsf_name name;
     for (size_t k = 0; k < tables[table].count; k++) {
-        for (uint32_t n = 0; n < rows[k].most; n++) wants("a block of a row", tlsf_pools_allocate(&pools, rows[k].len, &name), TLSF_OK);
-        wants("one more", tlsf_pools_allocate(&pools, rows[k].len, &name), TLSF_ROW_FULL);
+        for (uint32_t n = 0; n < rows[k].most; n++)
+            wants("a block of a row", tlsf_pools_allocate(&pools, (size_t)rows[k].len, &name), TLSF_OK);
+        wants("one more", tlsf_pools_allocate(&pools, (size_t)rows[k].len, &name), TLSF_ROW_FULL);
     }
     wants("close", tlsf_pools_close(&pools), TLSF_OK);
 }

@@ -15,6 +15,10 @@
 #include <sys/time.h>
 #include <unwind.h>
 
+#ifdef __ARM_EABI__ /* whose unwinder has no name for it */
+#define _URC_NORMAL_STOP _URC_FAILURE
+#endif
+
 enum { MOST = 40, WORDS = 4096, LONGEST = 300, CAPACITY = 16, FRAMES = 32, MAKE_CALLS = 1024 };
 
 struct block {

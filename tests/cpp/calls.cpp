@@ -15,8 +15,12 @@ void wants(const char *what, std::uint64_t got, std::uint64_t wanted) {
     std::exit(1);
 }
 
-// Further than 32 bits lead: cut to them it would be 4.
+// Further than 32 bits lead: cut to them it would be 4. Where there are no more, further than any region.
+#if SIZE_MAX > UINT32_MAX
 constexpr std::size_t far = (std::size_t(1) << 32) + 4;
+#else
+constexpr std::size_t far = (std::size_t(1) << 29) + 4;
+#endif
 
 void by_name(tlsf::heap &heap) {
     const tlsf::heap &looked_at = heap;

@@ -276,8 +276,10 @@ static void sized_heaps(tlsf::level level) {
 static void refusals(tlsf::heap &heap) {
     tlsf::resource resource(heap);
     holds("no room", throws<std::bad_alloc>([&] { (void)resource.allocate(std::size_t(1) << 30, 8); }));
+#if SIZE_MAX > UINT32_MAX
     holds("past 32 bits", throws<std::bad_alloc>([&] { (void)resource.allocate(std::size_t(1) << 40, 8); }));
     holds("no such alignment", throws<std::bad_alloc>([&] { (void)resource.allocate(8, std::size_t(1) << 32); }));
+#endif
     holds("an allocator's", throws<std::bad_alloc>([&] { (void)tlsf::allocator<long>(heap).allocate(~std::size_t(0) / 2); }));
     holds("no region", throws<tlsf::bad_size>([] { tlsf::heap none(tlsf::level::four, 0, 3); }));
     holds("no region for so many", throws<tlsf::bad_size>([] { (void)tlsf::heap::for_blocks(tlsf::level::four, 0, 1000000, 512); }));
