@@ -117,6 +117,14 @@ turned_round() { # turned_round PROCESSOR: branches of the library, in dist/
     tail -n 1 "$work/out" >&2
 }
 
+# Images for processors of 32 bits. Where no tool for these is there, that script says so, and nothing is wrong.
+on_bare_boards() {
+    tests/bare_test > "$work/bare" 2>&1 < /dev/null
+    bare=$?
+    cat "$work/bare" >&2
+    [ "$bare" -eq 2 ] || count "$bare" "$work/bare" "images for processors of 32 bits (tests/bare_test)"
+}
+
 take_long() {
     many_calls
     with_sanitizers
@@ -124,6 +132,7 @@ take_long() {
     long_outer_programs
     beside_archive --long
     turned_round x86_64
+    on_bare_boards
     ! put_for_aarch64 || long_for_aarch64
     ! put_for_armhf || poisoned_for_armhf
 }
