@@ -6,9 +6,9 @@
  * TLSF_ONLY_MEMORY the calls: so an archive has an object file for each.
  *
  * The calls are proved on ELF for x86-64 and aarch64. The others are lowered from the same module, and tested or only assembled:
- * docs/C.md says what was tried. For Cortex-M and riscv32 there is never a system, so TLSF_NO_TLS is as good as defined; and with TLSF_LEVEL_4
- * there is level 4 alone, in a third less code. Cortex-M that is compiled by -mno-unaligned-access, for no words at odd addresses, gets the
- * code of Cortex-M0; clang tells of this from 17 on. */
+ * docs/C.md says what was tried. For Cortex-M and riscv32 there is never a system, so TLSF_NO_TLS is as good as defined. With TLSF_LEVEL_4
+ * Cortex-M has level 4 alone, in a third less code. Cortex-M that is compiled by -mno-unaligned-access, for no words at odd addresses, gets
+ * the code of Cortex-M0; clang tells of this from 17 on. */
 #ifdef TLSF_LEVEL_4
 #define TLSF_OF_LEVELS(port) port-level4
 #else
@@ -22,10 +22,10 @@
 #else
 #define TLSF_PORT TLSF_OF_LEVELS(thumbv6m)
 #endif
-#elif __SIZEOF_POINTER__ == 4 && defined(__riscv) && defined(__riscv_muldiv) && !defined(__riscv_32e) && defined(__ELF__) && !defined(__linux__)
-#define TLSF_PORT TLSF_OF_LEVELS(riscv32)
 #elif defined(TLSF_LEVEL_4)
-#error "TLSF_LEVEL_4 is for Cortex-M and riscv32 alone: see docs/C.md, 'On 32 bits'"
+#error "TLSF_LEVEL_4 is for Cortex-M alone: see docs/C.md, 'On 32 bits'"
+#elif __SIZEOF_POINTER__ == 4 && defined(__riscv) && defined(__riscv_muldiv) && !defined(__riscv_32e) && defined(__ELF__) && !defined(__linux__)
+#define TLSF_PORT riscv32
 #elif __SIZEOF_POINTER__ == 4 && defined(__arm__) && defined(__ELF__) && __ARM_ARCH >= 7 && __ARM_ARCH_PROFILE == 'A'
 #define TLSF_PORT armv7
 #elif __SIZEOF_POINTER__ != 8

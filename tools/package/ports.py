@@ -106,18 +106,21 @@ NO_SYSTEM_OF_32 = {
     "thumbv7m": Port("thumbv7m-none-eabi", ("-mcpu=cortex-m3", "-meabi", "gnu"), **BARE),
     "riscv32": Port("riscv32-unknown-elf", ("-march=rv32imc", "-mabi=ilp32"), **BARE),
 }
+OF_LEVEL_4 = {f"{name}-level4": dataclasses.replace(port, one_level=True) for name, port in NO_SYSTEM_OF_32.items()}
 PROVED = {
     "x86_64": Port("x86_64-unknown-linux-gnu", ("-march=x86-64",), "x86_64"),
     "aarch64": Port("aarch64-unknown-linux-gnu", ("-march=armv8-a",), "aarch64"),
 }
+# What tools/port lowers. dist/ has all of these but those of BY_HAND, whose boards mostly have flash enough.
 PORTS = {
     "riscv64": Port("riscv64-unknown-linux-gnu", ("-march=rv64imac", "-mabi=lp64"), "aarch64", "signext"),
     "x86_64-windows": Port("x86_64-pc-windows-gnu", ("-march=x86-64",), "x86_64", of_pairs="x86_64_sysvcc"),
     "arm64-macos": Port("arm64-apple-macosx13", (), "aarch64"),
     "armv7": Port("armv7-unknown-linux-gnueabihf", ("-mthumb", "-mfpu=vfpv3-d16"), "x86_64", is_narrow=True),
     **NO_SYSTEM_OF_32,
-    **{f"{name}-level4": dataclasses.replace(port, one_level=True) for name, port in NO_SYSTEM_OF_32.items()},
+    **OF_LEVEL_4,
 }
+BY_HAND = ("riscv32-level4",)
 
 
 def portable(text):
@@ -316,5 +319,6 @@ def write(clang, proved, folder):
         (folder / f"library-{name}.s").write_text(library_text(clang, port, calls_of_it), encoding="utf-8")
 
     with concurrent.futures.ThreadPoolExecutor() as pool:
-        for made in [pool.submit(write_one, name, port) for name, port in (PROVED | PORTS).items()]:
+        kept = {name: port for name, port in (PROVED | PORTS).items() if name not in BY_HAND}
+        for made in [pool.submit(write_one, name, port) for name, port in kept.items()]:
             made.result()
