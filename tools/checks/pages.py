@@ -13,7 +13,8 @@
 - no phrase is used that the list UNCLEAR of tools/prose.py has, 'as many' is
   compared with something, and behind is for places, after for time;
 - the newest version of CHANGELOG.md is the one that `tlsf --version` names, and
-  so is the one that the macros TLSF_VERSION_ of include/peachanchor.h make;
+  so is the one that the macros TLSF_VERSION_ of include/peachanchor.h make, and
+  so are those of library.json and of esp-idf/peachanchor/idf_component.yml;
 - figures of README.md's 'Why' are those of docs/MEASURED.md's 'In one table',
   word for word where they are rows, and both name the version that bench/front
   measured: the one that the revision beside that command has, as far as git
@@ -44,6 +45,8 @@ NEWEST = re.compile(r"^## (\d+\.\d+\.\d+)$", re.M)
 VERSION_FILE = "crates/tlsf_command/src/lib.rt"
 VERSION = re.compile(r'const VERSION: &str = "(.*)"')
 MACRO = re.compile(r"^#define TLSF_VERSION_(?:MAJOR|MINOR|PATCH) (\d+)$", re.M)
+# What build systems of boards read: the line that names the version.
+OF_RECIPES = (("library.json", '"version": "{}",\n'), ("esp-idf/peachanchor/idf_component.yml", "version: {}\n"))
 # What README.md and docs/MEASURED.md say of their figures, and where the first has some besides those of its table.
 MEASURED_AT = re.compile(r"`bench/front`\s+of\s+version\s+(\d+\.\d+\.\d+)")
 REVISION = re.compile(r"^\|.*\| `bench/front[^|]*\| (\w+) \|", re.M)
@@ -217,6 +220,9 @@ class Repository:
         macros = ".".join(MACRO.findall(tree.read(tree.TOP / "include" / "peachanchor.h")))
         if macros != named:
             yield f"include/peachanchor.h: its macros make version {macros}, and the program's is {named}"
+        for file, line in OF_RECIPES:
+            if line.format(named) not in tree.read(tree.TOP / file):
+                yield f"{file}: it isn't of version {named}, as the program is"
 
     def front(self):
         """README.md and docs/MEASURED.md, and for each the version of which it says its figures are, or nothing."""
