@@ -23,6 +23,7 @@ sys.dont_write_bytecode = True
 sys.path.insert(0, str(TOP / "tools"))
 import calls
 from package import bits32
+from package.in_place import in_place
 
 # Lines of LLVM's that GNU's assembler or an older one doesn't know, or that say nothing. Which processor and which convention of floats an
 # object file is for says who assembles it: of ARM's attributes those stay that say how data and the stack are aligned. Its unwinder's table
@@ -175,8 +176,9 @@ def moved(clang, port, text):
 
 def calls_text(clang, port, module, optimised=None):
     """The proved calls for a target, in which what fills and copies has names of the library's own."""
-    flags = [f"--target={port.target}", *port.flags, *port.machine_flags, optimised or port.optimised, "-fno-verbose-asm"]
-    text = told(clang, *flags, "-x", "ir", "-S", "-", "-o", "-", text=module)
+    how = optimised or port.optimised
+    flags = [f"--target={port.target}", *port.flags, *port.machine_flags, how, "-fno-verbose-asm"]
+    text = told(clang, *flags, "-x", "ir", "-S", "-", "-o", "-", text=in_place(module) if how == "-Os" else module)
     return plainly_named(portable(re.sub(r"(\s_?)mem(set|cpy|move)((?:@\w+)?\s)", r"\1tlsf_memory_\2\3", text)))
 
 
