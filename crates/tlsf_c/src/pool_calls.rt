@@ -15,7 +15,7 @@ use crate::any_arena::AnyArena;
 use crate::any_pools::AnyPools;
 use crate::arena_slot::{ArenaSlot, on_arena};
 use crate::call_fault::{CallFault, status};
-use crate::kind_row::{KindRow, kinds_in};
+use crate::kind_row::{KindRow, NO_KIND, put_kinds};
 use crate::lengths::saturated;
 use crate::names::{BlockName, HeapReport};
 use std::alloc::Global;
@@ -32,7 +32,8 @@ fn open_for(alloc: Global, level: u32, id: u32, rows: &[KindRow]) -> Result<AnyP
     ensures bad_size { IsErrOf result OpenFault.BadSize ↔ HasNoHeaps level 8 (kinds_of rows.now) }
     ensures not_worn { ¬ (IsErrOf result OpenFault.Worn) }
 {
-    let kinds = kinds_in(rows);
+    let mut kinds = [NO_KIND; 64];
+    put_kinds(rows, &mut kinds);
     let (table, _) = kinds.split_at(rows.len());
     AnyPools::open(alloc, level, id, table)
 }
