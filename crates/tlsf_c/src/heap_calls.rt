@@ -47,6 +47,7 @@ pub extern "C" fn tlsf_open(
 ) -> u32
     ensures refusals { OpensAtLevel heap.old.is_open level (IsRegion level words) heap.old heap.new result }
     ensures opens { result ≡ 0 → IsNewHeap heap.new level id words }
+    ensures align { heap.new.align ≡ heap.old.align }
 {
     if heap.is_open {
         return CallFault::InUse.number();
