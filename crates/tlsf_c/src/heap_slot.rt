@@ -38,7 +38,7 @@ pub struct HeapSlot {
     /// Whether a block by name has had an odd number of words: payloads may then be misaligned to 16 bytes. Opening clears it. C then
     /// notes the same of a heap whose alignment isn't that of malloc.
     pub is_mixed: bool,
-    /// What pointers are aligned to, in bytes, for C's own sums. C writes it before it opens. No call reads it, and none writes it.
+    /// The alignment of pointers in bytes, for C's own sums. C writes it before it opens. No call reads it, and none writes it.
     pub align: u8,
     ghost tied: { is_open ≡ inner.full },
 }

@@ -19,6 +19,12 @@ pub struct tlsf_heap {
 
 impl tlsf_heap {
     /// A handle that isn't open, to begin with.
-    pub const CLOSED: Self =
-        Self { held: core::ptr::null_mut(), is_open: false, base: core::ptr::null_mut(), number: 0, is_mixed: false, align: 0 };
+    pub const CLOSED: Self = Self {
+        held: core::ptr::null_mut(),
+        is_open: false,
+        base: core::ptr::null_mut(),
+        number: 0,
+        is_mixed: false,
+        align: 0,
+    };
 }
