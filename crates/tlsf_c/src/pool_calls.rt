@@ -11,8 +11,7 @@ ghost use Rattle.tlsf_c.specs.PoolHandles.{pools_in, pools_level, holds_pools, k
 ghost use Rattle.tlsf_c.specs.Serving.{arena_serves, ClosesArena, OpensAtLevel};
 ghost use Rattle.tlsf_c.specs.Levels.{IsLevel};
 
-use crate::any_arena::AnyArena;
-use crate::any_pools::AnyPools;
+use crate::any_pools::{AnyPools, boxed};
 use crate::arena_slot::{ArenaSlot, on_arena};
 use crate::call_fault::{CallFault, status};
 use crate::kind_row::{KindRow, NO_KIND, put_kinds};
@@ -71,14 +70,8 @@ pub extern "C" fn tlsf_pools_open(
     }
     match open_for(alloc, level, id, rows) {
         Err(fault) => fault.number(),
-        Ok(opened) => match Box::new(
-            alloc,
-            AnyArena::Pools {
-                is_idle: true,
-                owned: opened,
-            },
-        ) {
-            Err(_) => CallFault::NoMemory.number(),
+        Ok(opened) => match boxed(alloc, opened) {
+            Err(fault) => fault.number(),
             Ok(owned) => {
                 pools.put_in(owned);
                 0
