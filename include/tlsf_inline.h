@@ -190,7 +190,11 @@ TLSF_ANSWER TLSF_BODY size_t tlsf_made_unfilled(struct tlsf_heap *heap, uint32_t
     const struct tlsf_placed it = tlsf_allocate_place(heap, len);
     return it.answer != TLSF_OK ? 0 : 8 * ((size_t)it.at + 3);
 }
+TLSF_ANSWER TLSF_BODY size_t tlsf_made_payload(struct tlsf_heap *heap, size_t len) TLSF_NOEXCEPT {
+    return len > TLSF_LONGEST ? 0 : tlsf_made_unfilled(heap, ((uint32_t)len + 7) / 16 * 16 + 8);
+}
 #define tlsf_allocate_unfilled tlsf_made_unfilled
+#define tlsf_allocate_payload tlsf_made_payload
 #endif
 
 /* What a request is answered that no heap has room for: where no block begins is told by an open handle that no call is using. */
@@ -232,13 +236,10 @@ TLSF_RARE void *tlsf_malloc_mixed(struct tlsf_heap *heap, size_t len) TLSF_NOEXC
 }
 
 /* No payload begins at a region's first byte, so 0 says that there is none. */
-TLSF_CALL size_t tlsf_allocate_payload(struct tlsf_heap *heap, size_t len) TLSF_NOEXCEPT {
-    return len > TLSF_LONGEST ? 0 : tlsf_allocate_unfilled(heap, (uint32_t)tlsf_rounded(len));
-}
-
 TLSF_CALL void *tlsf_malloc(struct tlsf_heap *heap, size_t len) TLSF_NOEXCEPT {
     if (!tlsf_is_plain(heap)) return tlsf_malloc_mixed(heap, len);
-    const size_t byte = tlsf_allocate_payload(heap, len);
+    if (TLSF_ALIGN == 8 && len > TLSF_LONGEST) return TLSF_NULL;
+    const size_t byte = TLSF_ALIGN == 8 ? tlsf_allocate_unfilled(heap, (uint32_t)tlsf_rounded(len)) : tlsf_allocate_payload(heap, len);
     if (byte == 0) return TLSF_NULL;
     void *const p = (unsigned char *)heap->base + byte;
     TLSF_ASKED(p, len, tlsf_rounded(len));

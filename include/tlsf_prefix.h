@@ -80,6 +80,7 @@ TLSF_RENAME(tlsf_check_around, tlsf_check_around)
 TLSF_RENAME(tlsf_check_request, tlsf_check_request)
 TLSF_RENAME(tlsf_allocate_place, tlsf_allocate_place)
 TLSF_RENAME(tlsf_allocate_unfilled, tlsf_allocate_unfilled)
+TLSF_RENAME(tlsf_allocate_payload, tlsf_allocate_payload)
 TLSF_RENAME(tlsf_allocate_aligned, tlsf_allocate_aligned)
 TLSF_RENAME(tlsf_release_place, tlsf_release_place)
 TLSF_RENAME(tlsf_resize_place, tlsf_resize_place)
@@ -108,7 +109,6 @@ TLSF_RENAME(tlsf_pools_name_at, tlsf_pools_name_at)
 TLSF_RENAME(tlsf_text_of, tlsf_text_of)
 TLSF_RENAME(tlsf_rounded, tlsf_rounded)
 TLSF_RENAME(tlsf_place_of, tlsf_place_of)
-TLSF_RENAME(tlsf_allocate_payload, tlsf_allocate_payload)
 #endif
 
 #undef TLSF_RENAME

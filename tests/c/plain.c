@@ -277,6 +277,10 @@ size_t tlsf_allocate_unfilled(struct tlsf_heap *heap, uint32_t len) {
     return it.answer == TLSF_OK ? 8 * ((size_t)it.at + HEADER) : 0;
 }
 
+size_t tlsf_allocate_payload(struct tlsf_heap *heap, size_t len) {
+    return len > TLSF_LONGEST ? 0 : tlsf_allocate_unfilled(heap, ((uint32_t)len + 7) / 16 * 16 + 8);
+}
+
 uint32_t tlsf_place(struct tlsf_heap *heap, uint32_t at, struct tlsf_name *name, uint32_t *len) {
     struct piece *found = NULL;
     const uint32_t answer = at_place(heap, at, &found);
