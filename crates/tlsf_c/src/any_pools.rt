@@ -144,8 +144,8 @@ impl AnyPools {
     }
 }
 
-/// Pools in a box, which no call is using. What an arena of offsets would have there is never written: a function of its own shows the
-/// compiler so.
+/// Pools in a box, which no call is using. The fields of an arena of offsets, for which there is room too, are never written: a function of
+/// its own shows the compiler so.
 pub fn boxed(alloc: Global, pools: AnyPools) -> Result<Box<AnyArena, Global>, OpenFault>
     ensures idle { IfOk result (λ owned. is_arena_idle (Some owned.value) ≡ true) }
     ensures kind { IfOk result (λ owned. is_pools (Some owned.value) ≡ true) }
