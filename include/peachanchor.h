@@ -423,7 +423,7 @@ TLSF_ANSWER TLSF_CALL uint32_t tlsf_words_for(uint32_t level, uint32_t blocks, s
 TLSF_CALL uint32_t tlsf_free(struct tlsf_heap *heap, void *p) TLSF_NOEXCEPT;
 
 /* `len` bytes, aligned to the heap's `align`, whatever lies there; null where it is refused. The call is tlsf_allocate_payload, and
- * with a TLSF_ALIGN of 8 tlsf_allocate_unfilled. Where `align` isn't TLSF_ALIGN, or TLSF_ALIGN is 16 and a block by name has had an odd number of words, it is tlsf_allocate_place. What comes
+ * with a TLSF_ALIGN of 8 tlsf_allocate_place. Where `align` isn't TLSF_ALIGN, or TLSF_ALIGN is 16 and a block by name has had an odd number of words, it is tlsf_allocate_place. What comes
  * may be misaligned then, where such a block lies: it goes back, and a second call aligns. */
 TLSF_ANSWER TLSF_CALL void *tlsf_malloc(struct tlsf_heap *heap, size_t len) TLSF_NOEXCEPT TLSF_OF_BYTES(2);
 
@@ -801,10 +801,8 @@ TLSF_SHORT_CALL uint32_t tlsf_place_of(const struct tlsf_heap *heap, const void 
  * Refused: TLSF_IS_CLOSED, TLSF_NO_FIT, TLSF_WORN. */
 TLSF_ANSWER TLSF_BY_VALUE struct tlsf_placed tlsf_allocate_place(struct tlsf_heap *heap, size_t len) TLSF_NOEXCEPT;
 
-/* tlsf_allocate_place, but it answers how many bytes behind `base` the payload begins, or 0 where it is refused. */
-TLSF_ANSWER size_t tlsf_allocate_unfilled(struct tlsf_heap *heap, uint32_t len) TLSF_NOEXCEPT;
-
-/* The same for `len` rounded up to an odd number of words. It is 0 for a `len` above 2^27. */
+/* tlsf_allocate_place of `len` rounded up to an odd number of words. Answers how many bytes behind `base` its payload begins, or 0 where it
+ * is refused. So it is for a `len` above 2^27. */
 TLSF_ANSWER size_t tlsf_allocate_payload(struct tlsf_heap *heap, size_t len) TLSF_NOEXCEPT;
 
 /* As tlsf_allocate_place, at a place where `at + 3 + skew` is a multiple of `step`. Both are words; a `step` of 0 counts as 1.

@@ -186,14 +186,11 @@ TLSF_RARE struct tlsf_placed tlsf_mixed_place(struct tlsf_heap *heap, size_t len
 
 #if defined(TLSF_TRACE) || defined(TLSF_MARKED) || defined(TLSF_CHECKED)
 /* Where calls are written, marked or looked at first, the call of malloc's is one of them. */
-TLSF_ANSWER TLSF_BODY size_t tlsf_made_unfilled(struct tlsf_heap *heap, uint32_t len) TLSF_NOEXCEPT {
-    const struct tlsf_placed it = tlsf_allocate_place(heap, len);
+TLSF_ANSWER TLSF_BODY size_t tlsf_made_payload(struct tlsf_heap *heap, size_t len) TLSF_NOEXCEPT {
+    struct tlsf_placed it = {0, TLSF_NO_FIT, 0};
+    if (len <= TLSF_LONGEST) it = tlsf_allocate_place(heap, (len + 7) / 16 * 16 + 8);
     return it.answer != TLSF_OK ? 0 : 8 * ((size_t)it.at + 3);
 }
-TLSF_ANSWER TLSF_BODY size_t tlsf_made_payload(struct tlsf_heap *heap, size_t len) TLSF_NOEXCEPT {
-    return len > TLSF_LONGEST ? 0 : tlsf_made_unfilled(heap, ((uint32_t)len + 7) / 16 * 16 + 8);
-}
-#define tlsf_allocate_unfilled tlsf_made_unfilled
 #define tlsf_allocate_payload tlsf_made_payload
 #endif
 
@@ -238,8 +235,11 @@ TLSF_RARE void *tlsf_malloc_mixed(struct tlsf_heap *heap, size_t len) TLSF_NOEXC
 /* No payload begins at a region's first byte, so 0 says that there is none. */
 TLSF_CALL void *tlsf_malloc(struct tlsf_heap *heap, size_t len) TLSF_NOEXCEPT {
     if (!tlsf_is_plain(heap)) return tlsf_malloc_mixed(heap, len);
-    if (TLSF_ALIGN == 8 && len > TLSF_LONGEST) return TLSF_NULL;
-    const size_t byte = TLSF_ALIGN == 8 ? tlsf_allocate_unfilled(heap, (uint32_t)tlsf_rounded(len)) : tlsf_allocate_payload(heap, len);
+    if (TLSF_ALIGN == 8) {
+        const struct tlsf_placed it = tlsf_allocate_place(heap, tlsf_rounded(len));
+        return tlsf_asked_at(heap, it.answer, it.at, len);
+    }
+    const size_t byte = tlsf_allocate_payload(heap, len);
     if (byte == 0) return TLSF_NULL;
     void *const p = (unsigned char *)heap->base + byte;
     TLSF_ASKED(p, len, tlsf_rounded(len));

@@ -272,13 +272,10 @@ uint32_t tlsf_release_place(struct tlsf_heap *heap, uint32_t at) {
     return wrong == 19 ? TLSF_OK : release(heap->held, found);
 }
 
-size_t tlsf_allocate_unfilled(struct tlsf_heap *heap, uint32_t len) {
-    const struct tlsf_placed it = tlsf_allocate_place(heap, len);
-    return it.answer == TLSF_OK ? 8 * ((size_t)it.at + HEADER) : 0;
-}
-
 size_t tlsf_allocate_payload(struct tlsf_heap *heap, size_t len) {
-    return len > TLSF_LONGEST ? 0 : tlsf_allocate_unfilled(heap, ((uint32_t)len + 7) / 16 * 16 + 8);
+    struct tlsf_placed it = {0, TLSF_NO_FIT, 0};
+    if (len <= TLSF_LONGEST) it = tlsf_allocate_place(heap, (len + 7) / 16 * 16 + 8);
+    return it.answer == TLSF_OK ? 8 * ((size_t)it.at + HEADER) : 0;
 }
 
 uint32_t tlsf_place(struct tlsf_heap *heap, uint32_t at, struct tlsf_name *name, uint32_t *len) {

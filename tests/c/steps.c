@@ -57,7 +57,7 @@ static void call_by_place(uint32_t kind, uint32_t k, uint32_t size) {
     struct tlsf_placed it;
     uint32_t at = 0, len = 0;
     if (kind == 0 && live < MOST) {
-        const size_t byte = below(2) ? tlsf_allocate_payload(&heap, size) : tlsf_allocate_unfilled(&heap, size);
+        const size_t byte = tlsf_allocate_payload(&heap, size);
         if (byte != 0 && !tlsf_place(&heap, (uint32_t)(byte / 8) - 3, &names[live], &len)) live++;
     } else if (kind < 4 && live < MOST) {
         it = kind == 1 ? tlsf_allocate_place(&heap, size) : tlsf_allocate_aligned(&heap, size, 1u << below(6), below(2));
@@ -172,7 +172,6 @@ static struct {
     {"tlsf_resize_place", (uintptr_t)tlsf_resize_place, 0, 0},
     {"tlsf_allocate_place", (uintptr_t)tlsf_allocate_place, 0, 0},
     {"tlsf_allocate_payload", (uintptr_t)tlsf_allocate_payload, 0, 0},
-    {"tlsf_allocate_unfilled", (uintptr_t)tlsf_allocate_unfilled, 0, 0},
     {"tlsf_allocate_aligned", (uintptr_t)tlsf_allocate_aligned, 0, 0},
     {"tlsf_release_place", (uintptr_t)tlsf_release_place, 0, 0},
     {"tlsf_place", (uintptr_t)tlsf_place, 0, 0},

@@ -1,4 +1,4 @@
-//! C's calls of a heap by pointer.
+//! C's call of a heap by pointer.
 ghost use Rattle.std.specs.Prelude.{◌≡◌, ◌≤◌, ◌<◌};
 ghost use Rattle.tlsf_heap.specs.Blocks.{want};
 ghost use Rattle.tlsf_heap.specs.Effects.{AllocatesUnset};
@@ -11,25 +11,10 @@ ghost use Rattle.tlsf_c.specs.Pointers.{first_byte, longest};
 use crate::heap_slot::{HeapSlot, on_heap};
 
 /// Gives a block that holds `len` bytes of payload, and fills nothing: its bytes are those that lie there. Answers at which byte of the
-/// region the payload begins, or 0 where there is none. It takes no longer for more bytes. It is malloc without the sum and without the
-/// rounding to the heap's alignment: no export of Rattle answers an address.
+/// region the payload begins, or 0 where there is none. With its header the block has an even number of words. It takes no longer for
+/// more bytes. It is malloc without the sum: no export of Rattle answers an address.
 ///
-/// None is there where the handle isn't open, and where `Heap::allocate_unset` refuses: NoFit, Worn.
-///
-/// ```text
-/// tlsf_allocate_unfilled(&heap, 104) == 24         // of a new heap: 16 words of the region
-/// ```
-#[unsafe(no_mangle)]
-pub extern "C" fn tlsf_allocate_unfilled(heap: &mut HeapSlot, len: u32) -> usize
-    ensures allocates { OnHeap heap.old heap.new (result ≡ 0) (counted_request (counts_in heap.old) (allocated_in heap.old len) len (heap_in heap.new))
-        (Tells first_byte result (allocated_in heap.old len) (AllocatesUnset allocate_touches (level_in heap.old) (want len) len (seen_in heap.old) (seen_in heap.new) (stored_in heap.new))) }
-{
-    give(heap, len)
-}
-
-/// [`tlsf_allocate_unfilled`] of a length that is rounded up: with its header the block has an even number of words.
-///
-/// None is there also where `len` is above 2^27.
+/// None is there where the handle isn't open, where `len` is above 2^27, and where `Heap::allocate_unset` refuses: NoFit, Worn.
 ///
 /// ```text
 /// tlsf_allocate_payload(&heap, 100) == 24          // of a new heap: 104 bytes, 16 words of the region
@@ -40,30 +25,19 @@ pub extern "C" fn tlsf_allocate_payload(heap: &mut HeapSlot, len: usize) -> usiz
     ensures heap { len ≤ longest → OnHeap heap.old heap.new (result ≡ 0) (counted_request (counts_in heap.old) (allocated_in heap.old (Pointers.rounded len)) (Pointers.rounded len) (heap_in heap.new))
         (Tells first_byte result (allocated_in heap.old (Pointers.rounded len)) (AllocatesUnset allocate_touches (level_in heap.old) (want (Pointers.rounded len)) (Pointers.rounded len) (seen_in heap.old) (seen_in heap.new) (stored_in heap.new))) }
 {
-    if len > LONGEST {
+    if !heap.serves() || len > LONGEST {
         return 0;
     }
-    give(heap, rounded(len as u32))
-}
-
-/// Every region is shorter than this many bytes.
-const LONGEST: usize = 134_217_728;
-
-/// The body of both.
-#[inline(always)]
-fn give(heap: &mut HeapSlot, len: u32) -> usize
-    ensures allocates { OnHeap heap.old heap.new (result ≡ 0) (counted_request (counts_in heap.old) (allocated_in heap.old len) len (heap_in heap.new))
-        (Tells first_byte result (allocated_in heap.old len) (AllocatesUnset allocate_touches (level_in heap.old) (want len) len (seen_in heap.old) (seen_in heap.new) (stored_in heap.new))) }
-{
-    if !heap.serves() {
-        return 0;
-    }
+    let len = rounded(len as u32);
     let answer = on_heap!(heap, owned => owned.allocate_unset(len));
     match answer {
         Ok(name) => 8 * (name.at as usize + 3),
         Err(_) => 0,
     }
 }
+
+/// Every region is shorter than this many bytes.
+const LONGEST: usize = 134_217_728;
 
 /// The bytes that a heap is asked for where C asks for `len`: with its header the block has an even number of words.
 #[inline(always)]

@@ -84,7 +84,6 @@ extern "C" {
     pub fn tlsf_text_of(answer: u32) -> *const c_char;
     pub fn tlsf_rounded(len: usize) -> usize;
     pub fn tlsf_place_of(heap: *const tlsf_heap, p: *const c_void) -> u32;
-    #[must_use] pub fn tlsf_allocate_unfilled(heap: *mut tlsf_heap, len: u32) -> usize;
     #[must_use] pub fn tlsf_allocate_payload(heap: *mut tlsf_heap, len: usize) -> usize;
     pub fn tlsf_release_place(heap: *mut tlsf_heap, at: u32) -> u32;
     #[must_use] pub fn tlsf_resize_place(heap: *mut tlsf_heap, at: u32, len: usize, new_at: *mut u32) -> u32;
