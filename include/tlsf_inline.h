@@ -236,6 +236,7 @@ TLSF_RARE void *tlsf_malloc_mixed(struct tlsf_heap *heap, size_t len) TLSF_NOEXC
 TLSF_CALL void *tlsf_malloc(struct tlsf_heap *heap, size_t len) TLSF_NOEXCEPT {
     if (!tlsf_is_plain(heap)) return tlsf_malloc_mixed(heap, len);
     if (TLSF_ALIGN == 8) {
+        if (len > TLSF_LONGEST) return TLSF_NULL;
         const struct tlsf_placed it = tlsf_allocate_place(heap, tlsf_rounded(len));
         return tlsf_asked_at(heap, it.answer, it.at, len);
     }
