@@ -3,7 +3,8 @@
  * in front, which agrees.
  *
  * The proved code takes memory only to open, and gives it back only to close. Each piece lies 8 bytes behind a multiple of 16,
- * so that payloads at even places are aligned to 16. The word in front of it has the address that malloc gave, or 0. With
+ * so that payloads at even places are aligned to 16. A heap of more alignment has its words where its payloads are as aligned. The
+ * word in front of a piece has the address that malloc gave, or 0. With
  * TLSF_NO_MALLOC there is no other memory than the caller's. A near heap's own fields, the last piece of a heap, lie in it. With
  * TLSF_NO_TLS there is no thread-local storage either, as without a system: then one thread at a time opens.
  *
@@ -93,6 +94,13 @@ void *malloc(size_t bytes);
 void free(void *at);
 #endif
 
+/* What pointers are aligned to where a heap doesn't say more: as C's malloc has it. */
+#if __BIGGEST_ALIGNMENT__ == 8
+#define OWN_ALIGN 8
+#else
+#define OWN_ALIGN 16
+#endif
+
 #ifdef TLSF_NO_TLS
 #define OF_THREAD
 #else
@@ -101,6 +109,12 @@ void free(void *at);
 
 enum {
     MARK = 8,         /* bytes in front of a piece */
+    HEADER = 24,      /* and in front of a payload */
+    MIXED = 28,       /* the byte of a handle for whether blocks may begin where a pointer isn't aligned, */
+    ALIGN = 29,       /* and the one for what pointers are aligned to; 0 stands for OWN_ALIGN. */
+    LEAST_ALIGN = 8,  /* It is a power of two from here */
+    MOST_ALIGN = 64,  /* to here. */
+    PIECE_ALIGN = 16, /* What follows a mark lies 8 bytes behind a multiple of this, so pointers are aligned to it */
     HEAP = 2760,      /* bytes of a heap's own fields: beside its words and the bits that say where blocks begin */
     ARENA = 2760,     /* and of an arena's */
     LINE = 64,        /* the handle of a near heap lies at a multiple of a cache line, */
@@ -130,7 +144,10 @@ enum {
 
 /* What is left of the memory in which this thread opens something now. */
 static OF_THREAD unsigned char *lent, *lent_end;
-static OF_THREAD size_t lent_step; /* each piece lies 8 bytes behind a multiple of this: 16 or LINES */
+static OF_THREAD size_t lent_step; /* each piece lies 8 bytes behind a multiple of this: PIECE_ALIGN or LINES */
+
+/* The bytes from a multiple of LINES to the mark of the next piece of malloc's. */
+static OF_THREAD size_t front;
 
 /* The room beside its handle for the own fields of the heap that this thread opens now, and how many pieces come in front of them. */
 static OF_THREAD unsigned char *near_room;
@@ -155,9 +172,10 @@ static void *lend(size_t bytes) {
 /* Whatever the alignment of what malloc gives, all lines of the piece lie in it. */
 static void *take(size_t bytes) {
 #ifndef TLSF_NO_MALLOC
-    unsigned char *const from = bytes > MOST_BYTES ? 0 : malloc(LINES - 1 + with_mark(bytes, LINES)), *at;
+    unsigned char *const from = bytes > MOST_BYTES ? 0 : malloc(LINES - 1 + with_mark(front + bytes, LINES)), *at;
     if (!from) return 0;
-    at = from + skipped(from, LINES) + MARK;
+    at = from + skipped(from, LINES) + front + MARK;
+    front = 0;
     ((uint64_t *)(void *)at)[-1] = (uint64_t)(uintptr_t)from;
     return at;
 #else
@@ -277,14 +295,15 @@ static int has(const void *memory, size_t bytes, size_t step, size_t wanted) {
 }
 
 /* Where there is no memory, nothing is lent, and the call up to end_in is for a size that is refused. */
-static void begin_in(void *memory, size_t bytes, size_t step) {
+static void begin_behind(void *memory, size_t bytes, size_t skip, size_t step) {
     static unsigned char nothing;
-    const size_t skip = skipped(memory, step);
     const int is_there = is_memory(memory, bytes);
     lent = is_there ? (unsigned char *)memory + (skip < bytes ? skip : bytes) : &nothing;
     lent_end = is_there ? (unsigned char *)memory + bytes : &nothing;
     lent_step = step;
 }
+
+static void begin_in(void *memory, size_t bytes, size_t step) { begin_behind(memory, bytes, skipped(memory, step), step); }
 
 static uint32_t end_in(uint32_t answer, const void *memory, size_t bytes) {
     lent = 0;
@@ -309,10 +328,37 @@ static size_t words_in(size_t bytes, size_t most, size_t taken(size_t words)) {
     return words < most ? words : most;
 }
 
+/* What the pointers of the heap that is opened here are aligned to, and PIECE_ALIGN at least; 0 where no heap's are. */
+static size_t step_of(const struct tlsf_heap *heap) {
+    const size_t align = ((const unsigned char *)heap)[ALIGN];
+    if (align == 0) return PIECE_ALIGN;
+    if (align < LEAST_ALIGN || align > MOST_ALIGN || (align & (align - 1)) != 0) return 0;
+    return align < PIECE_ALIGN ? PIECE_ALIGN : align;
+}
+
+/* tlsf_open, which notes then whether pointers are aligned to something else than where a heap doesn't say more. A size that is refused
+ * stands for an alignment that no heap has. */
+static uint32_t open_noted(struct tlsf_heap *heap, uint32_t level, uint32_t number, size_t words) {
+    unsigned char *const own = (unsigned char *)heap;
+    const uint32_t answer = tlsf_open(heap, level, number, step_of(heap) == 0 ? 0 : (uint32_t)words);
+    if (answer == 0 && own[ALIGN] != 0 && own[ALIGN] != OWN_ALIGN) own[MIXED] = 1;
+    return answer;
+}
+
+/* With malloc's memory. A payload lies MARK and HEADER behind the words' mark. */
+static uint32_t open_by_malloc(struct tlsf_heap *heap, uint32_t level, uint32_t number, uint32_t words) {
+    const size_t step = step_of(heap);
+    front = step == MOST_ALIGN ? MOST_ALIGN - MARK - HEADER : 0; /* of a multiple of less a payload lies a multiple behind it */
+    const uint32_t answer = open_noted(heap, level, number, words);
+    front = 0;
+    return answer;
+}
+
 static uint32_t open_in(struct tlsf_heap *heap, uint32_t level, uint32_t number, void *memory, size_t bytes, size_t taken(size_t words)) {
-    const size_t skip = skipped(memory, 16), words = has(memory, bytes, 16, 0) ? words_in(bytes - skip, most_words(level), taken) : 0;
-    begin_in(memory, bytes, 16);
-    return end_in(tlsf_open(heap, level, number, (uint32_t)words), memory, bytes);
+    const size_t step = step_of(heap), skip = step == 0 ? 0 : skipped((const void *)((uintptr_t)memory + MARK + HEADER), step);
+    const size_t words = is_memory(memory, bytes) && skip <= bytes ? words_in(bytes - skip, most_words(level), taken) : 0;
+    begin_behind(memory, bytes, skip, PIECE_ALIGN);
+    return end_in(open_noted(heap, level, number, words), memory, bytes);
 }
 
 uint32_t tlsf_open_in(struct tlsf_heap *heap, uint32_t level, uint32_t number, void *memory, size_t bytes) {
@@ -328,7 +374,7 @@ static struct tlsf_heap *begin_near(struct tlsf_near_heap *near) {
 }
 
 uint32_t tlsf_open_near(struct tlsf_near_heap *near, uint32_t level, uint32_t number, uint32_t words) {
-    const uint32_t answer = tlsf_open(begin_near(near), level, number, words);
+    const uint32_t answer = open_by_malloc(begin_near(near), level, number, words);
     near_room = 0;
     return answer;
 }
@@ -341,7 +387,7 @@ uint32_t tlsf_open_near_in(struct tlsf_near_heap *near, uint32_t level, uint32_t
 
 /* The same calls by the names that they have for the linker (peachanchor.h). */
 uint32_t tlsf_open_32(struct tlsf_heap *heap, uint32_t level, uint32_t number, uint32_t words) {
-    return tlsf_open(heap, level, number, words);
+    return open_by_malloc(heap, level, number, words);
 }
 
 uint32_t tlsf_open_in_32(struct tlsf_heap *heap, uint32_t level, uint32_t number, void *memory, size_t bytes) {

@@ -50,7 +50,7 @@
 
 /* The version of this header, as of the program and of the packages. */
 #define TLSF_VERSION_MAJOR 0
-#define TLSF_VERSION_MINOR 27
+#define TLSF_VERSION_MINOR 28
 #define TLSF_VERSION_PATCH 0
 
 #include <stdbool.h>
@@ -189,6 +189,15 @@ enum tlsf_answer {
     TLSF_OTHER_KIND = 40   /* the handle holds something of another kind, as a post end's does that was cast to a take end's */
 };
 
+/* The bytes that pointers to blocks of a heap are aligned to, as C's malloc has it: 8 for ARM of 32 bits, else 16. A heap's `align` says
+ * another number, 8, 16, 32 or 64, before it is opened: `struct tlsf_heap heap = TLSF_CLOSED; heap.align = 32;`. With 8 a block takes
+ * fewer bytes, with 32 or 64 more, and each call by pointer takes longer than with TLSF_ALIGN. */
+#if defined(__BIGGEST_ALIGNMENT__) && __BIGGEST_ALIGNMENT__ == 8
+#define TLSF_ALIGN 8
+#else
+#define TLSF_ALIGN 16
+#endif
+
 /* What the proved calls read and write lies where it lies on 64 bits, on processors of 32 bits too: there a pointer in a handle has the first
  * half of 8 bytes, and what comes behind it begins at the next 8. */
 #ifdef __cplusplus
@@ -197,14 +206,15 @@ enum tlsf_answer {
 #define TLSF_AT_8 _Alignas(8)
 #endif
 
-/* Handles. Their fields are the library's own. Calls that open or close write them, and of the others only the one that notes the
- * first block by name of an odd number of words. */
+/* Handles. Their fields are the library's own, but for a heap's `align`. Calls that open or close write them, and of the others only the
+ * one that notes the first block by name of an odd number of words. */
 struct tlsf_heap {
     TLSF_AT_8 void *held;
     TLSF_AT_8 bool is_open;
-    TLSF_AT_8 uint64_t *base;  /* the region's first word, which is 8 bytes behind a multiple of 16 */
+    TLSF_AT_8 uint64_t *base;  /* the region's first word, 24 bytes in front of a multiple of 16, and of `align` */
     TLSF_AT_8 uint32_t number; /* of the names of its blocks */
-    bool is_mixed;             /* a block by name has had an odd number of words since the heap was opened */
+    bool is_mixed;             /* blocks may begin where a pointer isn't aligned: tlsf_malloc and tlsf_realloc look at each */
+    uint8_t align;             /* what pointers are aligned to, as the program says; 0 stands for TLSF_ALIGN */
 };
 /* A handle with the fields of the heap itself behind it, from the first multiple of 64 bytes on. tlsf_near finds the handle. */
 struct tlsf_near_heap {
@@ -239,7 +249,7 @@ struct tlsf_pools {
  * handle whose bytes are all zero is closed too, as a static one is. An open handle is closed by its call, never by these. */
 #ifdef __cplusplus
 /* clang-format off */
-#define TLSF_CLOSED { nullptr, false, nullptr, 0, false }
+#define TLSF_CLOSED { nullptr, false, nullptr, 0, false, 0 }
 #define TLSF_POST_CLOSED { nullptr, false }
 /* clang-format on */
 #define TLSF_TAKE_CLOSED TLSF_POST_CLOSED
@@ -249,7 +259,7 @@ struct tlsf_pools {
 #define TLSF_POOLS_CLOSED TLSF_POST_CLOSED
 #elif defined(__GNUC__) && !defined(__clang__) && __GNUC__ >= 8
 /* With -pedantic gcc warns where a compound literal begins a static object, and clang where another object does. */
-static const struct tlsf_heap tlsf_closed_heap __attribute__((unused)) = {NULL, false, NULL, 0, false};
+static const struct tlsf_heap tlsf_closed_heap __attribute__((unused)) = {NULL, false, NULL, 0, false, 0};
 static const struct tlsf_post_end tlsf_closed_post_end __attribute__((unused)) = {NULL, false};
 static const struct tlsf_take_end tlsf_closed_take_end __attribute__((unused)) = {NULL, false};
 static const struct tlsf_queue tlsf_closed_queue __attribute__((unused)) = {NULL, false};
@@ -264,7 +274,7 @@ static const struct tlsf_pools tlsf_closed_pools __attribute__((unused)) = {NULL
 #define TLSF_OFFSETS_CLOSED tlsf_closed_offsets
 #define TLSF_POOLS_CLOSED tlsf_closed_pools
 #else
-#define TLSF_CLOSED ((struct tlsf_heap){NULL, false, NULL, 0, false})
+#define TLSF_CLOSED ((struct tlsf_heap){NULL, false, NULL, 0, false, 0})
 #define TLSF_POST_CLOSED ((struct tlsf_post_end){NULL, false})
 #define TLSF_TAKE_CLOSED ((struct tlsf_take_end){NULL, false})
 #define TLSF_QUEUE_CLOSED ((struct tlsf_queue){NULL, false})
@@ -354,7 +364,7 @@ struct tlsf_kind {
 /* Opens a heap of `words` words in a closed handle. Level 4 takes 4 to 2^20 words. Level 5 takes 4 to 2^24, in finer classes.
  * `number` goes into the names of its blocks: give each heap of a program another one, also when it is opened again, as
  * tlsf_next_number does. Memory comes from malloc.
- * Refused, in this order: TLSF_IN_USE, TLSF_BAD_LEVEL, TLSF_BAD_SIZE, TLSF_NO_MEMORY. */
+ * Refused, in this order: TLSF_IN_USE, TLSF_BAD_LEVEL, TLSF_BAD_SIZE also for an `align` that no heap has, TLSF_NO_MEMORY. */
 TLSF_ANSWER uint32_t tlsf_open(struct tlsf_heap *heap, uint32_t level, uint32_t number, uint32_t words) TLSF_NOEXCEPT;
 
 /* Opens a heap in `bytes` bytes of the caller's from `memory` on, at any alignment. It has as many words as fit: at level 4 2^20
@@ -364,7 +374,7 @@ TLSF_ANSWER uint32_t tlsf_open(struct tlsf_heap *heap, uint32_t level, uint32_t 
 TLSF_ANSWER uint32_t tlsf_open_in(struct tlsf_heap *heap, uint32_t level, uint32_t number, void *memory, size_t bytes) TLSF_NOEXCEPT;
 
 /* The fewest bytes in which tlsf_open_in finds room for so many words, at any alignment of `memory`. It is 0 where no heap of
- * that level has so many. */
+ * that level has so many. A heap whose `align` is 32 or 64 takes 16 or 48 bytes more. */
 size_t tlsf_bytes(uint32_t level, uint32_t words) TLSF_NOEXCEPT;
 
 /* A number for a heap, an arena or pools, which no other of this process has or had, goes to `number`: 2^31 first, and then each
@@ -395,7 +405,7 @@ uint32_t tlsf_reset(struct tlsf_heap *heap) TLSF_NOEXCEPT;
 /* The words of a heap that never answers TLSF_NO_FIT to a program that allocates, resizes in place and releases in any order. It
  * has at most `blocks` blocks at once, of at most `len` bytes each; the block that is asked for counts too. The words go to
  * `words`. For 0 blocks they are 4, the least heap, whatever `len` is. For blocks by pointer give it tlsf_rounded(len), if none is
- * aligned above 16 and no block by name has an odd number of words.
+ * aligned above TLSF_ALIGN and, with 16 of it, no block by name has an odd number of words.
  * Refused: TLSF_BAD_LEVEL; TLSF_BAD_SIZE where no region of that level is so large. */
 TLSF_ANSWER uint32_t tlsf_words(uint32_t level, uint32_t blocks, size_t len, uint32_t *words) TLSF_NOEXCEPT;
 
@@ -412,24 +422,25 @@ TLSF_ANSWER TLSF_CALL uint32_t tlsf_words_for(uint32_t level, uint32_t blocks, s
  * TLSF_OK, with no call. Refused besides: TLSF_IS_CLOSED, TLSF_WORN. */
 TLSF_CALL uint32_t tlsf_free(struct tlsf_heap *heap, void *p) TLSF_NOEXCEPT;
 
-/* `len` bytes, aligned to 16, whatever lies there; null where it is refused. The call is tlsf_allocate_payload. Where a block by name has
- * had an odd number of words, what comes may be misaligned: it goes back, and a second call aligns. */
+/* `len` bytes, aligned to the heap's `align`, whatever lies there; null where it is refused. The call is tlsf_allocate_payload, and
+ * with a TLSF_ALIGN of 8 tlsf_allocate_place. Where `align` isn't TLSF_ALIGN, or TLSF_ALIGN is 16 and a block by name has had an odd number of words, it is tlsf_allocate_place. What comes
+ * may be misaligned then, where such a block lies: it goes back, and a second call aligns. */
 TLSF_ANSWER TLSF_CALL void *tlsf_malloc(struct tlsf_heap *heap, size_t len) TLSF_NOEXCEPT TLSF_OF_BYTES(2);
 
-/* As tlsf_malloc of `count * each` bytes, all zero. The call is tlsf_allocate, which fills; where that is misaligned, the block
- * goes back, and what tlsf_malloc gives is filled here. */
+/* As tlsf_malloc of `count * each` bytes, all zero. The call is tlsf_allocate, which fills. Where tlsf_malloc's is tlsf_allocate_place,
+ * what that gives is filled here. */
 TLSF_ANSWER TLSF_CALL void *tlsf_calloc(struct tlsf_heap *heap, size_t count, size_t each) TLSF_NOEXCEPT TLSF_OF_BYTES(2, 3);
 
-/* Gives what `p` points to `len` bytes, aligned to 16: what it had stays up to the smaller length. Where it moves, the old block
- * is freed. A null pointer is tlsf_malloc's; with a `len` of 0 it is freed, and the answer is null, also where the free is
+/* Gives what `p` points to `len` bytes, aligned as tlsf_malloc's: what it had stays up to the smaller length. Where it moves, the old
+ * block is freed. A null pointer is tlsf_malloc's; with a `len` of 0 it is freed, and the answer is null, also where the free is
  * refused. Where it is refused the answer is null, and the block is as before. A block by name that stays where it is keeps its
  * alignment.
- * Where a block by name has had an odd number of words, tlsf_block_at shows first whether this one stays. If not, tlsf_malloc's
- * calls give a block, it is copied here, and tlsf_free's call frees the old one. */
+ * Where tlsf_malloc's call is tlsf_allocate_place and `align` isn't 8, tlsf_block_at shows first whether this block stays. If not,
+ * tlsf_malloc's calls give a block, it is copied here, and tlsf_free's call frees the old one. */
 TLSF_ANSWER TLSF_CALL void *tlsf_realloc(struct tlsf_heap *heap, void *p, size_t len) TLSF_NOEXCEPT TLSF_OF_BYTES(3);
 
-/* As tlsf_malloc, aligned to `align`: any power of two, else it is refused. Above 16 a free block is looked for that has 32 + `align`
- * bytes more than tlsf_malloc takes. They are free again at once, but for 24 at most. */
+/* As tlsf_malloc, aligned to `align` too: any power of two, else it is refused. Above the heap's own a free block is looked for that has
+ * 32 + `align` bytes more than tlsf_malloc takes. They are free again at once, but for 24 at most. */
 TLSF_ANSWER TLSF_CALL void *tlsf_aligned_alloc(struct tlsf_heap *heap, size_t align, size_t len) TLSF_NOEXCEPT TLSF_OF_BYTES(3)
     TLSF_ALIGNED_BY(2);
 
@@ -443,7 +454,7 @@ TLSF_CALL size_t tlsf_usable_size(struct tlsf_heap *heap, const void *p) TLSF_NO
 TLSF_ANSWER TLSF_CALL uint32_t tlsf_name_at(struct tlsf_heap *heap, const void *p, struct tlsf_name *name) TLSF_NOEXCEPT;
 
 /* Allocates a block of at least `len` bytes by name and by pointer: its name goes to `name`, the address of its payload to
- * `payload`. It is aligned to `align`, any power of two, and to 16. It is all zero, or with TLSF_UNFILLED in `flags` what lies there.
+ * `payload`. It is aligned to `align`, any power of two, and as tlsf_malloc's. It is all zero, or with TLSF_UNFILLED in `flags` what lies there.
  * The call is that of tlsf_aligned_alloc; it is filled here.
  * Refused: TLSF_BAD_SIZE for any other `align`; TLSF_IS_CLOSED, TLSF_NO_FIT, TLSF_WORN. */
 TLSF_ANSWER TLSF_CALL uint32_t tlsf_allocate_at(struct tlsf_heap *heap, size_t len, size_t align, uint32_t flags, struct tlsf_name *name,
@@ -709,7 +720,8 @@ TLSF_ANSWER uint32_t tlsf_pools_check(struct tlsf_pools *pools, uint32_t part, u
 /* Blocks of pools by pointer. Each call is C over several proved ones: nine at most find the part of `p`, and two that of a new block.
  * `p` is any pointer: it is followed only where a live block's payload begins there. What tlsf_pools_malloc gives has all bytes of the
  * row for which it counts.
- * Each block is aligned to 16 where each row's `len` is a tlsf_rounded one, as those of a recording by pointer are, and to 8 otherwise.
+ * Each block is aligned to TLSF_ALIGN where each row's `len` is a tlsf_rounded one, as those of a recording by pointer are, and to 8
+ * otherwise.
  *
  * tlsf_pools_free frees a block: TLSF_OK, and TLSF_STALE where no live block's payload begins at `p`. A null pointer is TLSF_OK, with no
  * call. Refused besides: TLSF_IS_CLOSED, TLSF_WORN. */
@@ -774,10 +786,11 @@ TLSF_CALL const char *tlsf_text_of(uint32_t answer) TLSF_NOEXCEPT;
 
 /* --- Blocks by place: what the calls by pointer are made of ---------------------------------------------------------
  *
- * Give them a `len` of tlsf_rounded. While each call does, each block begins at an even place, and each payload is aligned to 16.
- * With another `len` tlsf_realloc may answer a pointer that is aligned to 8 alone. */
+ * Give them a `len` of tlsf_rounded. While each call does, each payload is aligned to TLSF_ALIGN: with 16 each block begins at an even
+ * place. With another `len` tlsf_realloc may answer a pointer that is aligned to 8 alone. */
 
-/* `len` rounded up to an odd number of words: with a header they are even. For the longest it is SIZE_MAX, which never fits. */
+/* `len` rounded up to words, and with a TLSF_ALIGN of 16 to an odd number of them: with a header they are even. For the longest it is
+ * SIZE_MAX, which never fits. */
 TLSF_SHORT_CALL size_t tlsf_rounded(size_t len) TLSF_NOEXCEPT;
 
 /* The place of the block whose payload begins at `p`. A misaligned pointer becomes a place that no region has. One outside becomes
@@ -788,8 +801,8 @@ TLSF_SHORT_CALL uint32_t tlsf_place_of(const struct tlsf_heap *heap, const void 
  * Refused: TLSF_IS_CLOSED, TLSF_NO_FIT, TLSF_WORN. */
 TLSF_ANSWER TLSF_BY_VALUE struct tlsf_placed tlsf_allocate_place(struct tlsf_heap *heap, size_t len) TLSF_NOEXCEPT;
 
-/* The call of tlsf_malloc: a block of tlsf_rounded bytes. Answers how many bytes behind `base` its payload begins, or 0 where it is refused.
- * So it is for a `len` above 2^27. */
+/* tlsf_allocate_place of `len` rounded up to an odd number of words. Answers how many bytes behind `base` its payload begins, or 0 where it
+ * is refused. So it is for a `len` above 2^27. */
 TLSF_ANSWER size_t tlsf_allocate_payload(struct tlsf_heap *heap, size_t len) TLSF_NOEXCEPT;
 
 /* As tlsf_allocate_place, at a place where `at + 3 + skew` is a multiple of `step`. Both are words; a `step` of 0 counts as 1.

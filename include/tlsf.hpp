@@ -240,8 +240,8 @@ class heap {
 
 public:
     heap() noexcept = default;
-    heap(level l, std::uint32_t number, std::uint32_t words) {
-        detail::must_be_ok(open(l, number, words), "tlsf: no region of that level has so many words");
+    heap(level l, std::uint32_t number, std::uint32_t words, std::uint8_t align = 0) {
+        detail::must_be_ok(open(l, number, words, align), "tlsf: no region of that level has so many words, or no heap that alignment");
     }
     // The same with a number of tlsf_next_number.
     heap(level l, std::uint32_t words) : heap(l, next_number(), words) {}
@@ -275,22 +275,25 @@ public:
         return heap(l, number, words);
     }
 
-    // As tlsf_open_near, for a heap that isn't open; nothing is thrown.
-    [[nodiscard]] std::uint32_t open(level l, std::uint32_t number, std::uint32_t words) noexcept {
+    // As tlsf_open_near, for a heap that isn't open; nothing is thrown. What malloc gives is aligned to `align`: 8, 16, 32 or 64, or 0
+    // for TLSF_ALIGN.
+    [[nodiscard]] std::uint32_t open(level l, std::uint32_t number, std::uint32_t words, std::uint8_t align = 0) noexcept {
         if (is_open()) return TLSF_IN_USE;
         detail::heap_state *const fresh = detail::new_state<detail::heap_state>();
         if (!fresh) return TLSF_NO_MEMORY;
+        tlsf_near(&fresh->held)->align = align;
         return keep(detail::heap_reference(fresh), tlsf_open_near(&fresh->held, static_cast<std::uint32_t>(l), number, words));
     }
     // As tlsf_open_near_in: its blocks lie in memory of the caller's, and so does all else, so no operator new is called. So it has fewer
     // words than tlsf_open_near_in would give it there: `bytes` of some words is enough for these. The memory is the caller's again once
     // the heap is closed and nothing refers to it: no block, resource, allocator or home.
-    [[nodiscard]] std::uint32_t open_in(level l, std::uint32_t number, void *memory, std::size_t bytes) noexcept {
+    [[nodiscard]] std::uint32_t open_in(level l, std::uint32_t number, void *memory, std::size_t bytes, std::uint8_t align = 0) noexcept {
         const auto of_level = static_cast<std::uint32_t>(l);
         if (is_open()) return TLSF_IN_USE;
         void *rest = memory;
         std::size_t left = bytes;
         detail::heap_state *const fresh = detail::state_in<detail::heap_state>(rest, left);
+        if (fresh) tlsf_near(&fresh->held)->align = align;
         if (fresh) return keep(detail::heap_reference(fresh), tlsf_open_near_in(&fresh->held, of_level, number, rest, left));
         // Too little memory is refused as none of it is.
         tlsf_heap none = TLSF_CLOSED;

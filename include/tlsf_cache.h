@@ -10,7 +10,7 @@
  *     tlsf_cache_close(&cache);                      // before its heap
  *
  * It keeps 8 blocks at most of each of 33 sizes: of 8, 24, 40 .. 520 bytes, in steps of 16. Longer blocks go to the heap, and so do
- * those for which there is no slot. A block that is kept is live for the heap, so each promise of the heap holds as it did. All is
+ * those for which there is no slot. A heap whose `align` is 32 or 64 has blocks of each second or fourth size alone. A block that is kept is live for the heap, so each promise of the heap holds as it did. All is
  * inline, over calls of peachanchor.h alone. It takes no memory, and writes to no payload but to fill it for tlsf_cache_calloc.
  *
  * WHAT IT COSTS
@@ -74,13 +74,12 @@ struct tlsf_cache {
     uint64_t *base;         /* the heap's */
     uint32_t at[TLSF_CACHE_SIZES][TLSF_CACHE_EACH] __attribute__((aligned(16)));
     uint32_t count[TLSF_CACHE_SIZES];
+    uint32_t mask; /* the words that pointers of the heap are aligned to, less one: a place has none of these bits */
 };
 
 /* A magazine that isn't open, to begin with alone. One whose bytes are all zero is closed too. */
 #define TLSF_CACHE_CLOSED \
-    { \
-        TLSF_NULL, TLSF_NULL, {{0}}, { 0 } \
-    }
+    { TLSF_NULL, TLSF_NULL, {{0}}, {0}, 0 }
 
 /* The blocks that a magazine keeps, and the bytes of their payload. Those of tlsf_report less these are the program's. */
 struct tlsf_cache_usage {
@@ -110,7 +109,7 @@ TLSF_ANSWER TLSF_BODY void *tlsf_cache_malloc(struct tlsf_cache *cache, size_t l
 /* As tlsf_calloc: tlsf_cache_malloc of `count * each` bytes, filled with zeros here. */
 TLSF_ANSWER TLSF_BODY void *tlsf_cache_calloc(struct tlsf_cache *cache, size_t count, size_t each) TLSF_NOEXCEPT;
 
-/* As tlsf_aligned_alloc. Up to 16 it is tlsf_cache_malloc, and above it the heap is asked. */
+/* As tlsf_aligned_alloc. Up to the heap's own alignment it is tlsf_cache_malloc, and above it the heap is asked. */
 TLSF_ANSWER TLSF_BODY void *tlsf_cache_aligned_alloc(struct tlsf_cache *cache, size_t align, size_t len) TLSF_NOEXCEPT;
 
 /* As tlsf_realloc, on the heap. A block that has the bytes for `len` and no more stays with no call but a look. Where the block
@@ -129,6 +128,11 @@ TLSF_BODY size_t tlsf_cache_usable_size(struct tlsf_cache *cache, const void *p)
 
 /* The bytes of a size. */
 TLSF_BODY uint32_t tlsf_cache_bytes(uint32_t size) TLSF_NOEXCEPT { return 16 * size + 8; }
+
+/* The bytes that the heap is asked for where the program asks for `len`: those of a size, or what the heap makes of it. */
+TLSF_BODY size_t tlsf_cache_asked(size_t len) TLSF_NOEXCEPT {
+    return len <= TLSF_CACHE_LONGEST ? tlsf_cache_bytes(((uint32_t)len + 7) / 16) : len;
+}
 
 /* The size of a block of `len` bytes; a number that no size has where such a block isn't kept. */
 TLSF_BODY uint32_t tlsf_cache_size(uint32_t len) TLSF_NOEXCEPT { return (len - 8) >> 4 | (len - 8) << 28; }
@@ -167,6 +171,7 @@ TLSF_BODY uint32_t tlsf_cache_open(struct tlsf_cache *cache, struct tlsf_heap *h
     cache->base = heap->base;
     TLSF_SET(cache->at, 0xff, sizeof cache->at);
     TLSF_SET(cache->count, 0, sizeof cache->count);
+    cache->mask = (uint32_t)tlsf_align_of(heap) / 8 - 1;
     return TLSF_OK;
 }
 
@@ -217,10 +222,13 @@ TLSF_RARE struct tlsf_placed tlsf_cache_ask_again(struct tlsf_cache *cache, size
 /* Asks the heap, and once more after all went back to it where it has no room. It stands apart, so that a call of a block that is kept
  * needs no frame. */
 TLSF_APART void *tlsf_cache_ask(struct tlsf_cache *cache, size_t len, size_t align) TLSF_NOEXCEPT {
+    const size_t bytes = tlsf_cache_asked(len);
     if (cache->heap == TLSF_NULL) return TLSF_NULL;
-    struct tlsf_placed it = tlsf_allocate_for(cache->heap, len, align);
-    if (it.answer == TLSF_NO_FIT) it = tlsf_cache_ask_again(cache, len, align);
-    return tlsf_asked_at(cache->heap, it.answer, it.at, len);
+    struct tlsf_placed it = tlsf_allocate_for(cache->heap, bytes, align);
+    if (it.answer == TLSF_NO_FIT) it = tlsf_cache_ask_again(cache, bytes, align);
+    if (it.answer != TLSF_OK) return TLSF_NULL;
+    TLSF_ASKED(cache->base + it.at + 3, len, tlsf_rounded_to(tlsf_align_of(cache->heap), bytes));
+    return cache->base + it.at + 3;
 }
 
 /* Takes the last block of a size out of its slot; there is one. */
@@ -239,7 +247,7 @@ TLSF_BODY void *tlsf_cache_malloc(struct tlsf_cache *cache, size_t len) TLSF_NOE
         const uint32_t size = ((uint32_t)len + 7) / 16;
         if (cache->count[size] != 0) return tlsf_cache_take(cache, size, len);
     }
-    return tlsf_cache_ask(cache, len, 16);
+    return tlsf_cache_ask(cache, len, 1);
 }
 
 TLSF_BODY void *tlsf_cache_calloc(struct tlsf_cache *cache, size_t count, size_t each) TLSF_NOEXCEPT {
@@ -249,7 +257,7 @@ TLSF_BODY void *tlsf_cache_calloc(struct tlsf_cache *cache, size_t count, size_t
 }
 
 TLSF_BODY void *tlsf_cache_aligned_alloc(struct tlsf_cache *cache, size_t align, size_t len) TLSF_NOEXCEPT {
-    const bool is_plain = align <= 16 && align != 0 && (align & (align - 1)) == 0;
+    const bool is_plain = align <= 8 * ((size_t)cache->mask + 1) && align != 0 && (align & (align - 1)) == 0;
     return is_plain ? tlsf_cache_malloc(cache, len) : tlsf_cache_ask(cache, len, align);
 }
 
@@ -264,12 +272,15 @@ TLSF_BODY void *tlsf_cache_realloc(struct tlsf_cache *cache, void *p, size_t len
     if (len == 0 || len > TLSF_LONGEST) return TLSF_NULL;
     const uint32_t answer = tlsf_cache_look(cache, p, &at, &had);
     if (TLSF_TOLD(cache->heap, "tlsf_cache_realloc", answer, at) != TLSF_OK) return TLSF_NULL;
-    if (had == tlsf_rounded(len)) {
+    if (had == (len <= TLSF_CACHE_LONGEST ? tlsf_cache_asked(len) : tlsf_rounded(len))) {
         TLSF_ASKED(p, len, had);
         return p;
     }
-    void *const moved = tlsf_realloc(cache->heap, p, len);
-    return moved != TLSF_NULL ? moved : tlsf_cache_move_again(cache, p, len);
+    const size_t bytes = tlsf_cache_asked(len);
+    void *moved = tlsf_realloc(cache->heap, p, bytes);
+    if (moved == TLSF_NULL) moved = tlsf_cache_move_again(cache, p, bytes);
+    if (moved != TLSF_NULL) TLSF_ASKED(moved, len, bytes);
+    return moved;
 }
 
 TLSF_BODY uint32_t tlsf_cache_free(struct tlsf_cache *cache, void *p) TLSF_NOEXCEPT {
@@ -279,8 +290,9 @@ TLSF_BODY uint32_t tlsf_cache_free(struct tlsf_cache *cache, void *p) TLSF_NOEXC
     const uint32_t answer = tlsf_cache_look(cache, p, &at, &len);
     if (answer != TLSF_OK) return TLSF_TOLD(cache->heap, "tlsf_cache_free", answer, at);
     const uint32_t size = tlsf_cache_size(len);
-    /* A block by name may begin at an odd place. Its payload lies at 8 bytes more than a multiple of 16, which malloc's never does. */
-    if (size >= TLSF_CACHE_SIZES || at % 2 != 0 || cache->count[size] == TLSF_CACHE_EACH) return tlsf_release_place(cache->heap, at);
+    /* A block by name may begin where its payload is aligned to less than malloc's. */
+    if (size >= TLSF_CACHE_SIZES || (at & cache->mask) != 0 || cache->count[size] == TLSF_CACHE_EACH)
+        return tlsf_release_place(cache->heap, at);
     cache->at[size][cache->count[size]++] = at;
     TLSF_ASKED(p, 0, len);
     return TLSF_OK;

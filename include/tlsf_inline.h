@@ -58,6 +58,7 @@ TLSF_LIES(tlsf_heap, is_open, 8);
 TLSF_LIES(tlsf_heap, base, 16);
 TLSF_LIES(tlsf_heap, number, 24);
 TLSF_LIES(tlsf_heap, is_mixed, 28);
+TLSF_LIES(tlsf_heap, align, 29);
 TLSF_TAKES(tlsf_heap, 32);
 TLSF_LIES(tlsf_post_end, is_open, 8);
 TLSF_TAKES(tlsf_post_end, 16);
@@ -91,7 +92,9 @@ TLSF_TAKES(tlsf_kind, 16);
 
 #define TLSF_LONGEST (UINT64_C(1) << 27) /* no region has so many bytes */
 
-TLSF_SHORT_CALL size_t tlsf_rounded(size_t len) TLSF_NOEXCEPT { return len > SIZE_MAX - 15 ? SIZE_MAX : ((len + 7) / 8 | 1) * 8; }
+TLSF_SHORT_CALL size_t tlsf_rounded(size_t len) TLSF_NOEXCEPT {
+    return len > SIZE_MAX - 15 ? SIZE_MAX : ((len + 7) / 8 | (TLSF_ALIGN == 16 || len == 0)) * 8;
+}
 
 TLSF_SHORT_CALL uint32_t tlsf_place_of(const struct tlsf_heap *heap, const void *p) TLSF_NOEXCEPT {
     const uint64_t offset = (uintptr_t)p - (uintptr_t)heap->base - 24;
@@ -152,24 +155,40 @@ TLSF_BODY struct tlsf_placed tlsf_align_place(struct tlsf_heap *heap, size_t len
     return tlsf_allocate_aligned(heap, len, (uint32_t)(align / 8), (uint32_t)((uintptr_t)heap->base / 8 % (align / 8)));
 }
 
-/* Gives a misaligned block back for one that is aligned to 16. */
-TLSF_RARE struct tlsf_placed tlsf_align_again(struct tlsf_heap *heap, size_t len, uint32_t at) TLSF_NOEXCEPT {
-    TLSF_RELEASE_SEEN(heap, at);
-    return tlsf_align_place(heap, len, 16);
+/* Whether each block that tlsf_rounded bytes were asked for begins where a pointer is aligned to TLSF_ALIGN, and to no more. As a number:
+ * a processor compares one with 0 in fewer instructions. */
+TLSF_BODY bool tlsf_is_plain(const struct tlsf_heap *heap) TLSF_NOEXCEPT {
+    return TLSF_ALIGN == 8 ? heap->align <= TLSF_ALIGN : *(const unsigned char *)&heap->is_mixed == 0;
 }
 
-/* A place for `len` bytes, TLSF_LONGEST at most, at a multiple of 16 bytes. */
-TLSF_BODY struct tlsf_placed tlsf_even_place(struct tlsf_heap *heap, size_t len) TLSF_NOEXCEPT {
-    const struct tlsf_placed it = tlsf_allocate_place(heap, tlsf_rounded(len));
-    if (it.answer != TLSF_OK || (uintptr_t)(heap->base + it.at + 3) % 16 == 0) return it;
-    return tlsf_align_again(heap, tlsf_rounded(len), it.at);
+/* What pointers to blocks of a heap are aligned to. */
+TLSF_BODY size_t tlsf_align_of(const struct tlsf_heap *heap) TLSF_NOEXCEPT { return heap->align == 0 ? TLSF_ALIGN : heap->align; }
+
+/* tlsf_rounded where pointers are aligned to `align`: with a header the bytes are a multiple of it. `len` is TLSF_LONGEST at most. */
+TLSF_BODY size_t tlsf_rounded_to(size_t align, size_t len) TLSF_NOEXCEPT {
+    return (((len == 0 ? 1 : len) + 24 + align - 1) & ~(align - 1)) - 24;
+}
+
+/* The bytes that a pointer to a block has which was asked for `len`. */
+TLSF_BODY size_t tlsf_own_rounded(const struct tlsf_heap *heap, size_t len) TLSF_NOEXCEPT {
+    return tlsf_is_plain(heap) ? tlsf_rounded(len) : tlsf_rounded_to(tlsf_align_of(heap), len);
+}
+
+/* A place for `len` bytes, TLSF_LONGEST at most, in a heap that isn't plain. A misaligned block goes back for one that is aligned. */
+TLSF_RARE struct tlsf_placed tlsf_mixed_place(struct tlsf_heap *heap, size_t len, size_t align) TLSF_NOEXCEPT {
+    const size_t own = tlsf_align_of(heap), rounded = tlsf_rounded_to(own, len);
+    if (align > own) return tlsf_align_place(heap, rounded, align);
+    const struct tlsf_placed it = tlsf_allocate_place(heap, rounded);
+    if (it.answer != TLSF_OK || (uintptr_t)(heap->base + it.at + 3) % own == 0) return it;
+    TLSF_RELEASE_SEEN(heap, it.at);
+    return tlsf_align_place(heap, rounded, own);
 }
 
 #if defined(TLSF_TRACE) || defined(TLSF_MARKED) || defined(TLSF_CHECKED)
 /* Where calls are written, marked or looked at first, the call of malloc's is one of them. */
 TLSF_ANSWER TLSF_BODY size_t tlsf_made_payload(struct tlsf_heap *heap, size_t len) TLSF_NOEXCEPT {
     struct tlsf_placed it = {0, TLSF_NO_FIT, 0};
-    if (len <= TLSF_LONGEST) it = tlsf_allocate_place(heap, tlsf_rounded(len));
+    if (len <= TLSF_LONGEST) it = tlsf_allocate_place(heap, (len + 7) / 16 * 16 + 8);
     return it.answer != TLSF_OK ? 0 : 8 * ((size_t)it.at + 3);
 }
 #define tlsf_allocate_payload tlsf_made_payload
@@ -189,39 +208,43 @@ TLSF_ANSWER TLSF_BODY struct tlsf_placed tlsf_allocate_for(struct tlsf_heap *hea
         refused.answer = tlsf_too_long(heap);
         return refused;
     }
-    return align <= 16 ? tlsf_even_place(heap, len) : tlsf_align_place(heap, tlsf_rounded(len), align);
+    if (!tlsf_is_plain(heap)) return tlsf_mixed_place(heap, len, align);
+    return align <= TLSF_ALIGN ? tlsf_allocate_place(heap, tlsf_rounded(len)) : tlsf_align_place(heap, tlsf_rounded(len), align);
 }
 
 /* The address of a payload of which `len` bytes were asked for, or null where there is none. */
 TLSF_BODY void *tlsf_asked_at(struct tlsf_heap *heap, uint32_t answer, uint32_t at, size_t len) TLSF_NOEXCEPT {
     if (answer != TLSF_OK) return TLSF_NULL;
-    TLSF_ASKED(heap->base + at + 3, len, tlsf_rounded(len));
+    TLSF_ASKED(heap->base + at + 3, len, tlsf_own_rounded(heap, len));
     return heap->base + at + 3;
 }
 
 /* The bodies, where they are inline, and once in the library. */
 #if defined(TLSF_INLINE) || defined(TLSF_POINTERS)
-/* Gives a misaligned block of malloc's back for one that is aligned to 16. The block has the length, so that malloc keeps none. */
-TLSF_RARE void *tlsf_malloc_again(struct tlsf_heap *heap, const void *p) TLSF_NOEXCEPT {
-    struct tlsf_block_info own = {0, 0, 0, 0, 0};
-    if (tlsf_block_at(heap, tlsf_place_of(heap, p), &own) != TLSF_OK) return TLSF_NULL;
-    const struct tlsf_placed it = tlsf_align_again(heap, own.len, own.at);
-    return it.answer == TLSF_OK ? heap->base + it.at + 3 : TLSF_NULL;
+TLSF_CALL void *tlsf_aligned_alloc(struct tlsf_heap *heap, size_t align, size_t len) TLSF_NOEXCEPT {
+    const struct tlsf_placed it = tlsf_allocate_for(heap, len, align);
+    return tlsf_asked_at(heap, it.answer, it.at, len);
+}
+
+TLSF_RARE void *tlsf_malloc_mixed(struct tlsf_heap *heap, size_t len) TLSF_NOEXCEPT {
+    if (len > TLSF_LONGEST) return TLSF_NULL;
+    const struct tlsf_placed it = tlsf_mixed_place(heap, len, 1);
+    return tlsf_asked_at(heap, it.answer, it.at, len);
 }
 
 /* No payload begins at a region's first byte, so 0 says that there is none. */
 TLSF_CALL void *tlsf_malloc(struct tlsf_heap *heap, size_t len) TLSF_NOEXCEPT {
+    if (!tlsf_is_plain(heap)) return tlsf_malloc_mixed(heap, len);
+    if (TLSF_ALIGN == 8) {
+        if (len > TLSF_LONGEST) return TLSF_NULL;
+        const struct tlsf_placed it = tlsf_allocate_place(heap, tlsf_rounded(len));
+        return tlsf_asked_at(heap, it.answer, it.at, len);
+    }
     const size_t byte = tlsf_allocate_payload(heap, len);
     if (byte == 0) return TLSF_NULL;
-    void *p = (unsigned char *)heap->base + byte;
-    if ((uintptr_t)p % 16 != 0) p = tlsf_malloc_again(heap, p);
-    if (p != TLSF_NULL) TLSF_ASKED(p, len, tlsf_rounded(len));
+    void *const p = (unsigned char *)heap->base + byte;
+    TLSF_ASKED(p, len, tlsf_rounded(len));
     return p;
-}
-
-TLSF_CALL void *tlsf_aligned_alloc(struct tlsf_heap *heap, size_t align, size_t len) TLSF_NOEXCEPT {
-    const struct tlsf_placed it = tlsf_allocate_for(heap, len, align);
-    return tlsf_asked_at(heap, it.answer, it.at, len);
 }
 
 TLSF_CALL uint32_t tlsf_words_for(uint32_t level, uint32_t blocks, size_t len, size_t align, uint32_t *words) TLSF_NOEXCEPT {
@@ -234,11 +257,12 @@ TLSF_CALL void *tlsf_calloc(struct tlsf_heap *heap, size_t count, size_t each) T
     struct tlsf_name name = {0, 0, 0};
     if (each != 0 && count > TLSF_LONGEST / each) return TLSF_NULL;
     const size_t len = count * each;
-    if (tlsf_allocate(heap, tlsf_rounded(len), &name) != TLSF_OK) return TLSF_NULL;
-    if ((uintptr_t)(heap->base + name.at + 3) % 16 == 0) return tlsf_asked_at(heap, TLSF_OK, name.at, len);
-    TLSF_RELEASE_SEEN(heap, name.at);
-    void *const p = tlsf_malloc(heap, len);
-    return p == TLSF_NULL ? p : TLSF_SET(p, 0, len);
+    if (!tlsf_is_plain(heap)) {
+        void *const p = tlsf_malloc(heap, len);
+        return p == TLSF_NULL ? p : TLSF_SET(p, 0, len);
+    }
+    const uint32_t answer = tlsf_allocate(heap, tlsf_rounded(len), &name);
+    return tlsf_asked_at(heap, answer, name.at, len);
 }
 
 TLSF_CALL uint32_t tlsf_free(struct tlsf_heap *heap, void *p) TLSF_NOEXCEPT {
@@ -275,12 +299,14 @@ TLSF_BODY void *tlsf_resized_at(struct tlsf_heap *heap, uint32_t at, size_t roun
     return heap->base + at + 3;
 }
 
-/* tlsf_realloc of a block, where blocks may have odd numbers of words. One that has enough words for `len`, but not for what that is
- * rounded to, keeps the words that it has. It is a call of its own, so that the usual way needs no frame for what it looks at. */
+/* tlsf_realloc of a block in a heap that isn't plain. One that has enough words for `len`, but not for what that is rounded to, keeps the
+ * words that it has. It is a call of its own, so that the usual way needs no frame for what it looks at. */
 TLSF_RARE void *tlsf_realloc_mixed(struct tlsf_heap *heap, void *p, size_t len) TLSF_NOEXCEPT {
     struct tlsf_block_info it = {0, 0, 0, 0, 0};
     const uint32_t at = tlsf_place_of(heap, p);
-    size_t rounded = tlsf_rounded(len);
+    const size_t own = tlsf_align_of(heap);
+    size_t rounded = tlsf_rounded_to(own, len);
+    if (own == 8) return tlsf_resized_at(heap, at, rounded, len); /* each block is so aligned, wherever it goes */
     if (TLSF_IS_DAMAGED(heap, "tlsf_resize_place", at)) return TLSF_NULL;
     if (tlsf_block_at(heap, at, &it) != TLSF_OK || it.is_live == 0) return tlsf_resized_at(heap, at, rounded, len); /* refused */
     if (8 * (it.size - 3) >= len && 8 * (it.size - 3) < rounded) rounded = 8 * (it.size - 3);
@@ -297,7 +323,7 @@ TLSF_CALL void *tlsf_realloc(struct tlsf_heap *heap, void *p, size_t len) TLSF_N
     if (p == TLSF_NULL) return tlsf_malloc(heap, len);
     if (len == 0) tlsf_free(heap, p);
     if (len == 0 || len > TLSF_LONGEST) return TLSF_NULL;
-    if (heap->is_mixed) return tlsf_realloc_mixed(heap, p, len);
+    if (!tlsf_is_plain(heap)) return tlsf_realloc_mixed(heap, p, len);
     return tlsf_resized_at(heap, tlsf_place_of(heap, p), tlsf_rounded(len), len);
 }
 
@@ -306,7 +332,7 @@ TLSF_CALL uint32_t tlsf_allocate_at(struct tlsf_heap *heap, size_t len, size_t a
     const struct tlsf_placed it = tlsf_allocate_for(heap, len, align);
     const struct tlsf_name own = {heap->number, it.at, it.serial};
     if (it.answer != TLSF_OK) return it.answer;
-    if ((flags & TLSF_UNFILLED) == 0) TLSF_SET(heap->base + it.at + 3, 0, tlsf_rounded(len));
+    if ((flags & TLSF_UNFILLED) == 0) TLSF_SET(heap->base + it.at + 3, 0, tlsf_own_rounded(heap, len));
     *name = own;
     *payload = heap->base + it.at + 3;
     return TLSF_OK;

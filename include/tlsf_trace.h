@@ -9,7 +9,7 @@
  * Written are the calls on one heap: the first that is opened, or with `#define TLSF_TRACE_NUMBER 2` the first of number 2. The
  * trace begins when it is opened, and ends when it is closed. Its places and serials, and what it refuses, are those of the
  * heap: a block that moves is an `a` line and an `f` line, a drain is an `f` line for each name, and a block that is aligned to
- * more than 16 bytes is what the heap makes of it, in two lines or five. Of these five a replay takes one tick more than the heap
+ * more than the heap's bytes is what the heap makes of it, in two lines or five. Of these five a replay takes one tick more than the heap
  * does, so each later serial is higher by 1. A reset is an `f` line for each live block, though it takes one tick. Every file of the
  * program that calls the heap defines TLSF_TRACE. It needs gcc or clang, and half a megabyte of memory.
  *

@@ -73,7 +73,7 @@ static bool uses_pointers(void) {
     unsigned char *block[BLOCKS];
     for (uint32_t i = 0; i < BLOCKS; i++) {
         block[i] = tlsf_malloc(&heap, 20 * i + 1);
-        if (!block[i] || (uintptr_t)block[i] % 16 != 0) return false;
+        if (!block[i] || (uintptr_t)block[i] % TLSF_ALIGN != 0) return false;
         memset(block[i], (int)i, 20 * i + 1);
     }
     for (uint32_t i = 0; i < BLOCKS; i += 2) block[i] = tlsf_realloc(&heap, block[i], 40 * i + 1);

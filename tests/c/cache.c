@@ -1,7 +1,7 @@
 /* A magazine before a heap, call by call and then by chance. Each call by chance is made on a heap with no magazine too. Each byte of
  * each block is looked at. The two heaps hold the same, less what is kept, before a flush and after it. With names some blocks are
- * made by name, so that some lie at 8 bytes more than a multiple of 16. How often the magazine calls the heap is counted.
- * wrong.edits has wrong magazines. CACHE [CALLS] [SEED] [LEVEL] [names] */
+ * made by name, so that some lie at 8 bytes more than a multiple of 16. By chance both heaps are aligned to ALIGN. How often the
+ * magazine calls the heap is counted. wrong.edits has wrong magazines. CACHE [CALLS] [SEED] [LEVEL] [names | plain] [ALIGN] */
 #include "chance.h"
 #include "peachanchor.h"
 
@@ -53,6 +53,7 @@ static struct tlsf_cache cache = TLSF_CACHE_CLOSED;
 static struct block blocks[MOST];
 static long counts[4];
 static uint32_t level = 4;
+static size_t own_align = TLSF_ALIGN; /* of both heaps */
 
 static size_t any_len(void) { return below(4) ? below(200) : below(LONGEST + 1); }
 
@@ -101,7 +102,7 @@ static void close_with(void) {
 
 static void *get(size_t len) {
     void *p = tlsf_cache_malloc(&cache, len);
-    wants("a block", p != NULL && (uintptr_t)p % 16 == 0, 1);
+    wants("a block", p != NULL && (uintptr_t)p % own_align == 0, 1);
     memset(p, 0xa5, len);
     return p;
 }
@@ -139,7 +140,7 @@ static void each_length(void) {
     for (size_t len = 0; len <= TLSF_CACHE_LONGEST + 40; len++) {
         void *const p = get(len), *const q = get(len), *const wall = get(TLSF_CACHE_LONGEST + 1);
         const size_t longest = len > 8 ? len : 8, usable = tlsf_cache_usable_size(&cache, p);
-        wants("usable", usable, (longest + 7) / 16 * 16 + 8);
+        wants("usable", usable, len <= TLSF_CACHE_LONGEST ? (longest + 7) / 16 * 16 + 8 : tlsf_rounded(len));
         end(p), end(q);
         const struct tlsf_cache_usage usage = kept();
         wants("blocks that are kept", usage.blocks, len <= TLSF_CACHE_LONGEST ? 2 : 0);
@@ -355,7 +356,7 @@ static void blocks_by_name(void) {
         unsigned char *const p = tlsf_payload(&heap, names[1], NULL);
         wants("its bytes", tlsf_cache_usable_size(&cache, p), len);
         end(p);
-        wants("is kept", kept().blocks, len % 16 == 8 && len <= TLSF_CACHE_LONGEST && (uintptr_t)p % 16 == 0);
+        wants("is kept", kept().blocks, len % 16 == 8 && len <= TLSF_CACHE_LONGEST && (uintptr_t)p % own_align == 0);
         end(tlsf_payload(&heap, names[0], NULL));
         unsigned char *const q = get(len);
         wants("bytes", tlsf_cache_usable_size(&cache, q) >= len, 1);
@@ -408,18 +409,19 @@ static void give(struct block *b, int with_names) {
     const size_t len = any_len(), align = (size_t)1 << below(11);
     const uint32_t way = below(with_names ? 12 : 10);
     if (way == 0) {
-        take_in(b, tlsf_cache_aligned_alloc(&cache, align, len), tlsf_aligned_alloc(&plain, align, len), len, align);
+        take_in(b, tlsf_cache_aligned_alloc(&cache, align, len), tlsf_aligned_alloc(&plain, align, len), len,
+                align > own_align ? align : own_align);
     } else if (way == 1) {
         unsigned char *const p = tlsf_cache_calloc(&cache, len, 1);
         for (size_t k = 0; p && k < len; k++) wants("a zero", p[k], 0);
-        take_in(b, p, tlsf_calloc(&plain, len, 1), len, 16);
+        take_in(b, p, tlsf_calloc(&plain, len, 1), len, own_align);
     } else if (way >= 10) {
         void *p = by_name(&heap, (uint32_t)len);
         if (p == NULL && tlsf_cache_flush(&cache) == TLSF_OK) p = by_name(&heap, (uint32_t)len);
         take_in(b, p, by_name(&plain, (uint32_t)len), len, 8);
     } else {
         void *const p = way == 2 ? tlsf_cache_realloc(&cache, NULL, len) : tlsf_cache_malloc(&cache, len);
-        take_in(b, p, tlsf_malloc(&plain, len), len, 16);
+        take_in(b, p, tlsf_malloc(&plain, len), len, own_align);
     }
 }
 
@@ -466,12 +468,13 @@ static void compare(int is_flushed) {
     wants("live blocks", r.live_blocks - usage.blocks, live);
     wants("live bytes", r.live_bytes - usage.bytes, bytes);
     wants("live blocks of the other", s.live_blocks, live);
-    if (!heap.is_mixed) wants("its live bytes", s.live_bytes, bytes);
+    if (TLSF_ALIGN == 16 && !heap.is_mixed) wants("its live bytes", s.live_bytes, bytes);
     wants("all words", r.live_words + r.free_words, WORDS);
     wants("headers agree", tlsf_check(&heap, 0, UINT32_MAX, &next, &damaged), TLSF_OK);
 }
 
 static void by_chance(long calls, int with_names) {
+    heap.align = plain.align = (uint8_t)own_align;
     open_with(WORDS);
     wants("the heap beside it", tlsf_open(&plain, level, 2, WORDS), TLSF_OK);
     for (turn = 0; turn < calls; turn++) {
@@ -507,8 +510,10 @@ int main(int argc, char **argv) {
     foreign_ones();
     blocks_by_name();
     rule_3_broken();
-    by_chance(calls, argc > 4);
-    printf("level %u%s: %ld given, %ld refused, %ld by one heap alone, %ld moved\n", (unsigned)level, argc > 4 ? ", with names" : "",
+    const int with_names = argc > 4 && strcmp(argv[4], "names") == 0;
+    if (argc > 5) own_align = strtoul(argv[5], NULL, 10);
+    by_chance(calls, with_names);
+    printf("level %u%s: %ld given, %ld refused, %ld by one heap alone, %ld moved\n", (unsigned)level, with_names ? ", with names" : "",
            counts[0], counts[1], counts[2], counts[3]);
     return 0;
 }

@@ -149,6 +149,7 @@ static void open_heap(uint32_t level, enum way by, bool is_mixed) {
 #endif
     way = by;
     heap = by == LOCKED ? tlsf_near(&locked.heap) : &plain;
+    heap->align = is_mixed ? 16 : 0;
     wants("open", by == LOCKED ? tlsf_locked_open_in(&locked, level, 1, at, room, false) : tlsf_open_in(heap, level, 1, at, room), TLSF_OK);
     wants("report", tlsf_report(heap, &report), TLSF_OK);
     words = report.free_words;
@@ -367,8 +368,8 @@ static void around(unsigned char *before, void *block, void *next) {
     refused("tlsf_resize_place", told.answer, TLSF_STALE, tlsf_place_of(heap, before + 8));
 }
 
-/* With the links of the great free block damaged: the requests that it would serve are refused, and no others. In a mixed heap a realloc that
- * moves asks as malloc does. */
+/* With the links of the great free block damaged: the requests that it would serve are refused, and no others. In a mixed heap a calloc, and a realloc
+ * that moves, ask as malloc does. */
 static void requests(void *block, void *hole, bool is_mixed) {
     struct tlsf_name name = {0, 0, 0}, own = name_of(block);
     struct tlsf_block_info it = {0, 0, 0, 0, 0}, rest = {0, 0, 0, 0, 0};
@@ -384,11 +385,11 @@ static void requests(void *block, void *hole, bool is_mixed) {
     wants("no block", tlsf_malloc(heap, 500) == NULL, 1);
     refused("tlsf_allocate_place", told.answer, TLSF_DAMAGED, rest.at);
     wants("no block", tlsf_calloc(heap, 50, 10) == NULL, 1);
-    refused("tlsf_allocate", told.answer, TLSF_DAMAGED, rest.at);
+    refused(is_mixed ? "tlsf_allocate_place" : "tlsf_allocate", told.answer, TLSF_DAMAGED, rest.at);
     wants("no block", tlsf_aligned_alloc(heap, 64, 500) == NULL, 1);
     refused("tlsf_allocate_aligned", told.answer, TLSF_DAMAGED, rest.at);
     refused("tlsf_allocate", tlsf_allocate(heap, 500, &name), TLSF_DAMAGED, rest.at);
-    refused("tlsf_allocate_place", tlsf_allocate_at(heap, 500, 16, 0, &name, &p), TLSF_DAMAGED, rest.at);
+    refused("tlsf_allocate_place", tlsf_allocate_at(heap, 500, TLSF_ALIGN, 0, &name, &p), TLSF_DAMAGED, rest.at);
     refused("tlsf_reallocate", tlsf_reallocate(heap, &own, 500), TLSF_DAMAGED, rest.at);
     wants("no block", tlsf_realloc(heap, block, 500) == NULL, 1);
     refused(is_mixed ? "tlsf_allocate_place" : "tlsf_resize_place", told.answer, TLSF_DAMAGED, rest.at);

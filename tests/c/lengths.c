@@ -58,7 +58,7 @@ static void sizes(size_t len) {
     wants("words", tlsf_words(level, 1 + below(9), len, &words), TLSF_BAD_SIZE);
     wants("no words", words, 77);
     wants("words of no blocks", tlsf_words(level, 0, len, &words) + words, 4);
-    wants("rounded", rounded == SIZE_MAX || (rounded >= len && rounded - len < 16 && rounded % 16 == 8), 1);
+    wants("rounded", rounded == SIZE_MAX || (rounded >= len && rounded - len < TLSF_ALIGN && (rounded + 24) % TLSF_ALIGN == 0), 1);
 }
 
 int main(int argc, char **argv) {

@@ -294,7 +294,7 @@ static void lanes_of_malloc(void) {
         wants("close", tlsf_post_close(&post[k]) + tlsf_take_close(&take[k]), NEW_ANSWER == TLSF_OK ? 0 : 2 * TLSF_IS_CLOSED);
 }
 
-/* Heaps, near heaps, lanes, queues, arenas and pools by a malloc that aligns as little. */
+/* Heaps of each alignment, near heaps, lanes, queues, arenas and pools by a malloc that aligns as little. */
 static void by_malloc_off_line(size_t off) {
     static const struct tlsf_kind rows[] = {{3, 24}, {2, 1000}};
     struct tlsf_post_end post = TLSF_POST_CLOSED;
@@ -305,12 +305,14 @@ static void by_malloc_off_line(size_t off) {
     struct tlsf_near_heap third = TLSF_NEAR_CLOSED;
     off_line = off;
     for (uint32_t words = 4; words < 4 + LINES; words++) {
+        plain.align = tlsf_near(&third)->align = (uint8_t)(words % 5 == 4 ? 0 : 8 << words % 5);
         wants("a heap", tlsf_open(&plain, 4, 1, words) + tlsf_close(&plain), TLSF_OK);
         wants("a near heap", tlsf_open_near(&third, 5, 1, words) + tlsf_close(tlsf_near(&third)), TLSF_OK);
         wants("a lane", tlsf_lane_open(&post, &take, words) + tlsf_post_close(&post) + tlsf_take_close(&take), TLSF_OK);
         wants("a queue", tlsf_queue_open(&queue, words, words) + tlsf_queue_close(&queue), TLSF_OK);
         wants("an arena", tlsf_offsets_open(&offsets, 4, 1, 64, words) + tlsf_offsets_close(&offsets), TLSF_OK);
     }
+    plain.align = 0;
     wants("pools", tlsf_pools_open(&pools, 4, 1, rows, 2) + tlsf_pools_close(&pools), TLSF_OK);
     off_line = 0;
     for (size_t k = 0; k < 2 * LINES; k++) wants("all is freed", taken[k].real != NULL, 0);

@@ -274,8 +274,7 @@ uint32_t tlsf_release_place(struct tlsf_heap *heap, uint32_t at) {
 
 size_t tlsf_allocate_payload(struct tlsf_heap *heap, size_t len) {
     struct tlsf_placed it = {0, TLSF_NO_FIT, 0};
-    const size_t bytes = tlsf_rounded(len);
-    if (len <= TLSF_LONGEST) it = tlsf_allocate_place(heap, bytes);
+    if (len <= TLSF_LONGEST) it = tlsf_allocate_place(heap, (len + 7) / 16 * 16 + 8);
     return it.answer == TLSF_OK ? 8 * ((size_t)it.at + HEADER) : 0;
 }
 

@@ -1,7 +1,7 @@
 /* malloc's calls by chance on two heaps, against a table: one heap in memory of the program's, one in malloc's. What each block
  * holds is looked at byte by byte, and each answer is judged. Pointers that no live block has are given to each call, and some
- * blocks are made or released by name. Each power of two is an alignment, and heaps have the words that were told for both kinds.
- * wrong.edits has wrong lines. POINTERS [CALLS] [SEED] [LEVEL] [names] */
+ * blocks are made or released by name. Each power of two is an alignment, and heaps have the words that were told for both kinds. Both
+ * heaps are aligned to ALIGN. wrong.edits has wrong lines. POINTERS [CALLS] [SEED] [LEVEL] [names | plain] [ALIGN] */
 #include "chance.h"
 #include "peachanchor.h"
 
@@ -26,6 +26,12 @@ static struct model models[HEAPS] = {{.heap = TLSF_CLOSED}, {.heap = TLSF_CLOSED
 static unsigned char *memory, *inside;
 static long counts[4];
 static int with_names;
+static uint8_t own_align; /* of both heaps; 0: they say none */
+
+static size_t align_of(uint8_t own) { return own == 0 ? TLSF_ALIGN : own; }
+
+/* The bytes of a block that has room for `len`: with its header a multiple of the alignment. */
+static size_t rounded_of(size_t len, size_t align) { return ((len ? len : 1) + 24 + align - 1) / align * align - 24; }
 
 static size_t any_len(void) { return below(5) ? below(120) : below(LONGEST + 1); }
 
@@ -62,7 +68,7 @@ static void take_in(struct model *m, struct block *b, void *p, size_t len, size_
 /* By what the report grants a request has to be served, where aligning takes no more than `extra` bytes. */
 static int is_served(struct model *m, const void *p, size_t len, size_t extra) {
     const struct tlsf_heap_report r = report_of(m);
-    const size_t wanted = tlsf_rounded(len);
+    const size_t wanted = rounded_of(len, align_of(own_align));
     const int has_room = r.free_blocks != 0;
     counts[p == NULL]++;
     if (p) return 1;
@@ -76,8 +82,8 @@ static void give_plain(struct model *m, struct block *b) {
     const size_t len = any_len();
     const int is_zero = below(3) == 0;
     void *p = is_zero ? tlsf_calloc(&m->heap, len, 1) : below(2) ? tlsf_malloc(&m->heap, len) : tlsf_realloc(&m->heap, NULL, len);
-    if (!is_served(m, p, len, with_names ? 48 : 0)) return;
-    take_in(m, b, p, len, 16);
+    if (!is_served(m, p, len, with_names ? 32 + align_of(own_align) : 0)) return;
+    take_in(m, b, p, len, align_of(own_align));
     b->fill = 0;
     if (is_zero) check_bytes(b, len);
     fill(b);
@@ -86,8 +92,8 @@ static void give_plain(struct model *m, struct block *b) {
 static void give_aligned(struct model *m, struct block *b) {
     const size_t len = any_len(), align = (size_t)1 << below(15);
     void *p = tlsf_aligned_alloc(&m->heap, align, len);
-    if (!is_served(m, p, len, 32 + (align > 16 ? align : 16))) return;
-    take_in(m, b, p, len, align);
+    if (!is_served(m, p, len, 32 + (align > align_of(own_align) ? align : align_of(own_align)))) return;
+    take_in(m, b, p, len, align > align_of(own_align) ? align : align_of(own_align));
     fill(b);
 }
 
@@ -122,11 +128,11 @@ static void resize(struct model *m, struct block *b) {
     unsigned char *p = tlsf_realloc(&m->heap, b->p, len);
     if (!p) {
         wants("a block that isn't longer", len > had, 1);
-        (void)is_served(m, p, len, with_names ? 48 : 0);
+        (void)is_served(m, p, len, with_names ? 32 + align_of(own_align) : 0);
         return;
     }
     counts[2] += p != b->p;
-    if (p != b->p) take_in(m, b, p, len, 16);
+    if (p != b->p) take_in(m, b, p, len, align_of(own_align));
     wants("usable size", tlsf_usable_size(&m->heap, p) >= len, 1);
     b->len = len;
     check_bytes(b, had < len ? had : len);
@@ -191,7 +197,8 @@ static void refuse_sizes(struct model *m, void *live) {
     struct tlsf_name name = {9, 9, 9};
     void *p = NULL;
     const size_t any = below(2) ? (size_t)below(1u << 30) * 5 : SIZE_MAX - below(40), rounded = tlsf_rounded(any);
-    wants("rounded", rounded == SIZE_MAX ? any > SIZE_MAX - 15 : rounded >= any && rounded - any < 16 && rounded % 16 == 8, 1);
+    wants("rounded",
+          rounded == SIZE_MAX ? any > SIZE_MAX - 15 : rounded >= any && rounded - any < TLSF_ALIGN && (rounded + 24) % TLSF_ALIGN == 0, 1);
     wants("the longest", tlsf_rounded(SIZE_MAX), SIZE_MAX);
     wants("nearly", tlsf_rounded(SIZE_MAX - 15) >= SIZE_MAX - 15 && tlsf_rounded(SIZE_MAX - 14) == SIZE_MAX, 1);
     wants("free of null", tlsf_free(&m->heap, NULL), TLSF_OK);
@@ -217,7 +224,7 @@ static void check_all(struct model *m) {
     for (int k = 0; k < MOST; k++)
         if (m->blocks[k].p) check_bytes(&m->blocks[k], m->blocks[k].len);
     for (; tlsf_block_at(&m->heap, at, &it) == TLSF_OK; at += it.size) {
-        wants("an even place", !with_names && at % 2, 0);
+        wants("a place that is aligned", !with_names && 8 * at % align_of(own_align), 0);
         wants("a block's words hold its bytes", 8 * (size_t)it.size >= 8 * HEADER + it.len, 1);
         live += it.is_live;
         words += it.is_live ? it.size : 0;
@@ -242,18 +249,23 @@ static void count_refusals(struct model *m) {
     m->refused = c.refused;
 }
 
+/* The bytes that have room for as many words at any alignment. */
+static size_t bytes_of(uint32_t level) { return tlsf_bytes(level, WORDS) + (own_align > 16 ? own_align - 16u : 0); }
+
 static void open_all(uint32_t level) {
-    const size_t bytes = tlsf_bytes(level, WORDS);
-    memory = malloc(bytes + 2 * GUARD);
+    const size_t bytes = bytes_of(level);
+    memory = malloc(bytes + 3 * GUARD);
     if (!memory) exit(2);
-    memset(memory, 0xa5, bytes + 2 * GUARD);
-    inside = memory + GUARD + 1; /* at the worst alignment, as many words as were asked for */
+    memset(memory, 0xa5, bytes + 3 * GUARD);
+    inside = memory + GUARD;
+    inside += (31 - (uintptr_t)inside) % 64 + 2; /* at the worst alignment, as many words as were asked for */
+    models[0].heap.align = models[1].heap.align = own_align;
     wants("open in", tlsf_open_in(&models[0].heap, level, NUMBER, inside, bytes), TLSF_OK);
     wants("open", tlsf_open(&models[1].heap, level, NUMBER + 1, WORDS), TLSF_OK);
 }
 
 static void close_all(uint32_t level) {
-    const size_t bytes = tlsf_bytes(level, WORDS);
+    const size_t bytes = bytes_of(level);
     for (int h = 0; h < HEAPS; h++) {
         struct model *m = &models[h];
         for (int k = 0; k < MOST; k++)
@@ -263,7 +275,7 @@ static void close_all(uint32_t level) {
         wants("close", tlsf_close(&m->heap), TLSF_OK);
         wants("closed", tlsf_malloc(&m->heap, 8) == NULL && tlsf_free(&m->heap, inside) == TLSF_IS_CLOSED, 1);
     }
-    for (size_t k = 0; k < bytes + 2 * GUARD; k++)
+    for (size_t k = 0; k < bytes + 3 * GUARD; k++)
         if (memory + k < inside || memory + k >= inside + bytes) wants("a byte outside", memory[k], 0xa5);
     free(memory);
 }
@@ -272,6 +284,7 @@ static void close_all(uint32_t level) {
 static void lacks_one_word(void) {
     struct tlsf_heap heap = TLSF_CLOSED;
     struct tlsf_name names[3];
+    heap.align = 16;
     wants("open", tlsf_open(&heap, 4, 1, 400), TLSF_OK);
     unsigned char *p = tlsf_malloc(&heap, 24), *q = p;
     for (int k = 0; k < 3; k++) wants("five words", tlsf_allocate(&heap, 16, &names[k]), TLSF_OK);
@@ -299,6 +312,74 @@ static void odd_blocks_are_noted(void) {
               TLSF_OK);
         wants("is noted", heap.is_mixed, true);
         wants("close", tlsf_close(&heap), TLSF_OK);
+    }
+}
+
+/* A block of `len` bytes by one call or another, which is as aligned as the heap's are, and filled to its end. */
+static unsigned char *filled(struct tlsf_heap *heap, uint32_t k, size_t len) {
+    struct tlsf_name name;
+    void *at = NULL;
+    if (k % 4 == 3) wants("by name", tlsf_allocate_at(heap, len, 4, 0, &name, &at), TLSF_OK);
+    unsigned char *const p = k % 4 == 0   ? tlsf_malloc(heap, len)
+                             : k % 4 == 1 ? tlsf_calloc(heap, len, 1)
+                             : k % 4 == 2 ? tlsf_aligned_alloc(heap, 4, len)
+                                          : at;
+    wants("a block", p != NULL && (uintptr_t)p % align_of(heap->align) == 0, 1);
+    const size_t all = tlsf_usable_size(heap, p);
+    wants("its bytes", all, rounded_of(len, align_of(heap->align)));
+    for (size_t b = 0; k % 2 == 1 && b < (k % 4 == 3 ? all : len); b++) wants("a zero", p[b], 0);
+    return memset(p, (int)k, all);
+}
+
+/* Blocks that lie side by side take their bytes and no more, stay or move where they get others, and none is written by another. */
+static void side_by_side(struct tlsf_heap *heap) {
+    unsigned char *blocks[24];
+    struct tlsf_heap_counts c = {0, 0, 0, 0};
+    size_t bytes = 0;
+    for (uint32_t k = 0; k < 24; k++) {
+        blocks[k] = filled(heap, k, 5 * k);
+        bytes += 24 + tlsf_usable_size(heap, blocks[k]);
+    }
+    wants("counts", tlsf_counts(heap, &c), TLSF_OK);
+    wants("words", 8 * (size_t)c.words, bytes);
+    for (uint32_t k = 0; k < 24; k += 2) {
+        blocks[k] = tlsf_realloc(heap, blocks[k], 5 * k + 1 + 7 * (k % 8));
+        wants("aligned where it moved", blocks[k] != NULL && (uintptr_t)blocks[k] % align_of(heap->align) == 0, 1);
+    }
+    for (uint32_t k = 0; k < 24; k++)
+        for (size_t at = 0; at < 5 * k; at++) wants("a byte as it was", blocks[k][at], k);
+    for (uint32_t k = 0; k < 24; k++) wants("free", tlsf_free(heap, blocks[k]), TLSF_OK);
+}
+
+/* A heap takes the alignments that it may have alone, and is refused with another after what is refused without one. */
+static void own_alignments(uint32_t level) {
+    static _Alignas(64) unsigned char room[8192];
+    for (unsigned align = 0; align <= UINT8_MAX; align++) {
+        const bool is_one = align == 0 || align == 8 || align == 16 || align == 32 || align == 64;
+        const uint32_t answer = is_one ? TLSF_OK : TLSF_BAD_SIZE;
+        for (int way = 0; way < 2 + 64; way++) {
+            struct tlsf_near_heap near = {{0}};
+            struct tlsf_heap plain = TLSF_CLOSED, *const heap = way == 1 || way % 2 ? tlsf_near(&near) : &plain;
+            unsigned char *const at = room + (way - 2);
+            heap->align = (uint8_t)align;
+            wants("a level that there isn't",
+                  way == 0   ? tlsf_open(heap, 6, 1, 800)
+                  : way == 1 ? tlsf_open_near(&near, 6, 1, 800)
+                  : way % 2  ? tlsf_open_near_in(&near, 6, 1, at, 8000)
+                             : tlsf_open_in(heap, 6, 1, at, 8000),
+                  TLSF_BAD_LEVEL);
+            wants("such an alignment",
+                  way == 0   ? tlsf_open(heap, level, 1, 800)
+                  : way == 1 ? tlsf_open_near(&near, level, 1, 800)
+                  : way % 2  ? tlsf_open_near_in(&near, level, 1, at, 8000)
+                             : tlsf_open_in(heap, level, 1, at, 8000),
+                  answer);
+            wants("open", heap->is_open, is_one);
+            if (!is_one) continue;
+            side_by_side(heap);
+            wants("it stays", heap->align, align);
+            wants("close", tlsf_close(heap), TLSF_OK);
+        }
     }
 }
 
@@ -398,7 +479,9 @@ int main(int argc, char **argv) {
     const long calls = argc > 1 ? strtol(argv[1], NULL, 10) : 20000;
     const uint32_t level = argc > 3 ? (uint32_t)strtoul(argv[3], NULL, 10) : 4;
     state = 88172645463325252u + 7919 * (argc > 2 ? strtoul(argv[2], NULL, 10) : 0);
-    with_names = argc > 4;
+    with_names = argc > 4 && strcmp(argv[4], "names") == 0;
+    own_align = argc > 5 ? (uint8_t)strtoul(argv[5], NULL, 10) : 0;
+    own_alignments(level);
     lacks_one_word();
     odd_blocks_are_noted();
     any_alignment(level);

@@ -35,7 +35,7 @@ static uint32_t any_len(void) {
 /* No byte of a row overlaps one of another block's, and each lies in the memory of the pools. */
 static void looks_new(const struct held *it) {
     const uint8_t *const end = it->at + rows[it->row].len;
-    wants("aligned to 16", (uintptr_t)it->at % 16, 0);
+    wants("aligned", (uintptr_t)it->at % TLSF_ALIGN, 0);
     for (uint32_t k = 0; k < count; k++) {
         const struct held *other = &held[k];
         if (other != it) wants("apart", end <= other->at || other->at + rows[other->row].len <= it->at, 1);

@@ -52,7 +52,7 @@ static void by_pointer(uint32_t k) {
     void *const second = p[0] ? table.realloc(&pointed, p[1], len) : table.malloc(&pointed, len);
     wants("both or neither", !first, !second);
     if (!first) return;
-    wants("aligned", (uintptr_t)first % 16 + (uintptr_t)second % 16, 0);
+    wants("aligned", (uintptr_t)first % TLSF_ALIGN + (uintptr_t)second % TLSF_ALIGN, 0);
     p[0] = first;
     p[1] = second;
 }

@@ -46,7 +46,7 @@ void by_name(tlsf::heap &heap) {
 void by_pointer(tlsf::heap &heap) {
     const tlsf::heap &looked_at = heap;
     void *const p = heap.malloc(100);
-    wants("malloc", p != nullptr && reinterpret_cast<std::uintptr_t>(p) % 16 == 0, 1);
+    wants("malloc", p != nullptr && reinterpret_cast<std::uintptr_t>(p) % TLSF_ALIGN == 0, 1);
     wants("usable_size", looked_at.usable_size(p), 104);
     wants("words in use", looked_at.counts().words, 16);
     wants("refused", looked_at.counts().refused, 0);
@@ -188,6 +188,23 @@ void closed() {
 
 } // namespace
 
+// A heap of each alignment, in malloc's memory and in the program's.
+void own_alignments(tlsf::level level) {
+    alignas(64) static unsigned char room[8192];
+    for (unsigned align = 0; align <= 64; align++) {
+        const bool is_one = align == 0 || align == 8 || align == 16 || align == 32 || align == 64;
+        const std::size_t least = align == 0 ? TLSF_ALIGN : align;
+        const auto own = static_cast<std::uint8_t>(align);
+        tlsf::heap heap, inside;
+        wants("open", heap.open(level, 1, 600, own), is_one ? TLSF_OK : TLSF_BAD_SIZE);
+        wants("open_in", inside.open_in(level, 2, room + 1, 8000, own), is_one ? TLSF_OK : TLSF_BAD_SIZE);
+        for (std::size_t len = 0; is_one && len < 60; len += 9) {
+            wants("malloc", reinterpret_cast<std::uintptr_t>(heap.malloc(len)) % least, 0);
+            wants("calloc", reinterpret_cast<std::uintptr_t>(inside.calloc(len, 1)) % least, 0);
+        }
+    }
+}
+
 int main() {
     for (const tlsf::level level : {tlsf::level::four, tlsf::level::five}) {
         tlsf::heap heap(level, 1, 1 << 10);
@@ -197,6 +214,7 @@ int main() {
         checked(heap);
         looked_at(heap);
         checked_pools(level);
+        own_alignments(level);
         wants("all is back", heap.report().live_blocks, 0);
     }
     closed();

@@ -23,6 +23,7 @@ drains_more first last now posts more before after =
         };
         base = after.stays.base ∙ before.stays.base;
         number = after.stays.number ∙ before.stays.number;
+        align = after.stays.align ∙ before.stays.align;
         mixed = after.stays.mixed ∙ before.stays.mixed;
       };
       drained = released_more (heap_in first) (heap_in last) (heap_in now) posts more before.drained after.drained;

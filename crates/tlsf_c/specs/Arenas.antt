@@ -12,11 +12,11 @@ is_arena_idle None = true
 is_arena_idle (Some (Offsets idle o)) = idle
 is_arena_idle (Some (Pools idle p)) = idle
 
--- the same arena, that a call is using
-abbrev pub left_used_arena : Option AnyArena → Option AnyArena
-left_used_arena None = None
-left_used_arena (Some (Offsets idle o)) = Some (Offsets false o)
-left_used_arena (Some (Pools idle p)) = Some (Pools false p)
+-- the same arena, whose note says this of whether no call is using it
+abbrev pub arena_with_idle : Bool → Option AnyArena → Option AnyArena
+arena_with_idle idle None = None
+arena_with_idle idle (Some (Offsets was o)) = Some (Offsets idle o)
+arena_with_idle idle (Some (Pools was p)) = Some (Pools idle p)
 
 abbrev pub is_offsets : Option AnyArena → Bool
 is_offsets None = false

@@ -53,16 +53,16 @@ abbrev pub is_idle : Option AnyEnd → Bool
 is_idle None = true
 is_idle (Some e) = idle_kind (as_kind e)
 
--- the same end, that a call is using
-abbrev pub used_as : Kinds → AnyEnd
-used_as (end.Post idle p) = any.Post false p
-used_as (end.Take idle t) = any.Take false t
-used_as (end.Queue idle q) = any.Queue false q
-used_as (end.Poster idle p) = any.Poster false p
+-- the same end, whose note says this of whether no call is using it
+abbrev pub kind_with_idle : Bool → Kinds → AnyEnd
+kind_with_idle idle (end.Post was p) = any.Post idle p
+kind_with_idle idle (end.Take was t) = any.Take idle t
+kind_with_idle idle (end.Queue was q) = any.Queue idle q
+kind_with_idle idle (end.Poster was p) = any.Poster idle p
 
-abbrev pub left_used : Option AnyEnd → Option AnyEnd
-left_used None = None
-left_used (Some e) = Some (used_as (as_kind e))
+abbrev pub with_idle : Bool → Option AnyEnd → Option AnyEnd
+with_idle idle None = None
+with_idle idle (Some e) = Some (kind_with_idle idle (as_kind e))
 
 -- the end of a lane that puts names in, if it is one
 abbrev pub post_of_end : Option AnyEnd → Option PostEnd

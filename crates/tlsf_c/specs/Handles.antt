@@ -64,13 +64,14 @@ touched_in h = h.inner.value.heap.touched
 abbrev pub counts_in : HeapSlot → HeapCounts
 counts_in h = h.inner.value.heap.counts
 
--- an open handle serves again, and its number and its region's address stay. Its heap keeps its level and its memory, and touches
+-- an open handle serves again, and its number, its alignment and its region's address stay. Its heap keeps its level and its memory, and touches
 -- never fall. Of a note of an odd block `noted` says what becomes of it
 pub record StaysOpenBut (noted : Bool → Bool → Type 0) (old new : HeapSlot) : Type 0 where
   pub serves : serves new ≡ true
   pub heap : GoesOn old.inner.value.heap new.inner.value.heap
   pub base : new.base ≡ old.base
   pub number : new.number ≡ old.number
+  pub align : new.align ≡ old.align
   pub mixed : noted old.is_mixed new.is_mixed
 
 -- so, and the note is as before
@@ -94,6 +95,7 @@ pub record NamesBlock (len : ℕ) (answer : Result Name Refusal) (old new : Bloc
 pub record KeepsBeside (old new : HeapSlot) : Type 0 where
   pub base : new.base ≡ old.base
   pub number : new.number ≡ old.number
+  pub align : new.align ≡ old.align
   pub mixed : new.is_mixed ≡ old.is_mixed
 
 -- an open handle of a new heap of that level, with that number and this many words

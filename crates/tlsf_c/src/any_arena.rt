@@ -1,6 +1,6 @@
 //! The content of an arena's handle.
 ghost use Rattle.std.specs.Prelude.{◌≡◌, Some};
-ghost use Rattle.tlsf_c.specs.Arenas.{is_arena_idle, left_used_arena, is_offsets, is_pools};
+ghost use Rattle.tlsf_c.specs.Arenas.{is_arena_idle, arena_with_idle, is_offsets, is_pools};
 
 use crate::any_offsets::AnyOffsets;
 use crate::any_pools::AnyPools;
@@ -23,13 +23,13 @@ impl AnyArena {
         }
     }
 
-    /// Notes that a call is using it.
-    pub fn set_in_use(&mut self)
-        ensures { Some self.new ≡ left_used_arena (Some self.old) }
+    /// Notes whether no call is using it.
+    pub fn set_idle(&mut self, idle: bool)
+        ensures { Some self.new ≡ arena_with_idle idle (Some self.old) }
     {
         match self {
-            AnyArena::Offsets { is_idle, .. } => *is_idle = false,
-            AnyArena::Pools { is_idle, .. } => *is_idle = false,
+            AnyArena::Offsets { is_idle, .. } => *is_idle = idle,
+            AnyArena::Pools { is_idle, .. } => *is_idle = idle,
         }
     }
 

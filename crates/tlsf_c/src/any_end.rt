@@ -1,6 +1,6 @@
 //! The content of an end's handle.
 ghost use Rattle.std.specs.Prelude.{◌≡◌, is_some, Some};
-ghost use Rattle.tlsf_c.specs.Ends.{is_idle, left_used, post_of_end, take_of_end, queue_of_end, poster_of_end};
+ghost use Rattle.tlsf_c.specs.Ends.{is_idle, with_idle, post_of_end, take_of_end, queue_of_end, poster_of_end};
 
 use crate::queue_end::QueueEnd;
 use tlsf_post::{PostEnd, PosterEnd, TakeEnd};
@@ -30,15 +30,15 @@ impl AnyEnd {
         }
     }
 
-    /// Notes that a call is using it.
-    pub fn set_in_use(&mut self)
-        ensures { Some self.new ≡ left_used (Some self.old) }
+    /// Notes whether no call is using it.
+    pub fn set_idle(&mut self, idle: bool)
+        ensures { Some self.new ≡ with_idle idle (Some self.old) }
     {
         match self {
-            AnyEnd::Post { is_idle, .. } => *is_idle = false,
-            AnyEnd::Take { is_idle, .. } => *is_idle = false,
-            AnyEnd::Queue { is_idle, .. } => *is_idle = false,
-            AnyEnd::Poster { is_idle, .. } => *is_idle = false,
+            AnyEnd::Post { is_idle, .. } => *is_idle = idle,
+            AnyEnd::Take { is_idle, .. } => *is_idle = idle,
+            AnyEnd::Queue { is_idle, .. } => *is_idle = idle,
+            AnyEnd::Poster { is_idle, .. } => *is_idle = idle,
         }
     }
 

@@ -1,12 +1,13 @@
 //! A heap whose level is told when it is opened.
-ghost use Rattle.std.specs.Prelude.{◌≡◌, ◌≤◌, ◌↔◌, length, IfOk, IfErr, IsErrOf};
+ghost use Rattle.std.specs.Prelude.{◌≡◌, ◌+◌, ◌-◌, ◌/◌, ◌≤◌, ◌↔◌, true, length, IfOk, IfErr, OnOk, IsErrOf};
 ghost use Rattle.tlsf_heap.specs.Blocks.{want};
 ghost use Rattle.tlsf_heap.specs.Lawful.{IsRegion};
 ghost use Rattle.tlsf_heap.specs.Calls.{opened};
 ghost use Rattle.tlsf_heap.specs.Effects.{Allocates, Locates, Reads, Releases, Reports, Resets, Resizes, Writes};
 ghost use Rattle.tlsf_heap.specs.Touched.{allocate_touches, read_touches, release_touches, reset_touches, resize_touches, write_touches};
 ghost use Rattle.tlsf_heap.specs.WordsInUse.{words_in_use};
-ghost use Rattle.tlsf_c.specs.Counting.{no_counts, counted, counted_request, recounted};
+ghost use Rattle.tlsf_c.specs.Counting.{no_counts, none_refused, counted, counted_request, recounted};
+ghost use Rattle.tlsf_c.specs.LevelOf.{shown};
 ghost use Rattle.tlsf_c.specs.Drains.{ReleasesAll};
 ghost use Rattle.tlsf_c.specs.Handles.{posts_named, NamesBlock};
 ghost use Rattle.tlsf_c.specs.Levels.{GoesOn, seen_at, GoesOnWith, IsLevel};
@@ -17,6 +18,7 @@ mod by_place;
 
 use crate::at_level::at_level;
 use crate::heap_counts::HeapCounts;
+use crate::held_heap::HeldHeap;
 use crate::names::BlockName;
 use crate::refused::Refused;
 use std::alloc::Global;
@@ -50,29 +52,39 @@ impl Model for AnyHeap {
 }
 
 impl AnyHeap {
-    /// Opens a heap of a level, 4 or 5, over `words` words: number `id`, tick 0.
-    pub fn open(alloc: Global, level: u32, id: u32, words: u32) -> Result<AnyHeap, OpenFault>
+    /// Opens a heap of a level, 4 or 5, over `words` words: number `id`, tick 0. No call is using it.
+    pub fn open(
+        alloc: Global,
+        level: u32,
+        id: u32,
+        words: u32,
+    ) -> Result<Box<HeldHeap, Global>, OpenFault>
         requires level { IsLevel level }
-        ensures heap { IfOk result (λ heap. heap.heap ≡ opened id words 0) }
-        ensures level { IfOk result (λ heap. heap.level ≡ level) }
+        ensures idle { IfOk result (λ owned. owned.value.is_idle ≡ true) }
+        ensures heap { IfOk result (λ owned. owned.value.heap.heap ≡ opened id words 0) }
+        ensures level { IfOk result (λ owned. owned.value.heap.level ≡ level) }
         ensures bad_size { IsErrOf result OpenFault.BadSize ↔ ¬ (IsRegion level words) }
-        ensures counts { IfOk result (λ heap. heap.counts ≡ no_counts) }
+        ensures counts { IfOk result (λ owned. owned.value.heap.counts ≡ no_counts) }
         ensures no_memory { IsRegion level words → IfErr result (λ why. why ≡ OpenFault.NoMemory) }
-        ensures touches { IfOk result (λ heap. heap.touches ≤ 10) }
+        ensures touches { IfOk result (λ owned. owned.value.heap.touches ≤ 10) }
     {
-        if level == 4 {
-            let heap = Heap::<4>::open(alloc, id, words, 0)?;
-            Ok(AnyHeap {
-                refused: Refused::none(),
-                of_level: OfLevel::Four(heap),
-            })
-        } else {
-            let heap = Heap::<5>::open(alloc, id, words, 0)?;
-            Ok(AnyHeap {
-                refused: Refused::none(),
-                of_level: OfLevel::Five(heap),
-            })
-        }
+        let mut owned = open_least(alloc, level, id, words)?;
+        owned.heap.begin(words);
+        Ok(owned)
+    }
+
+    /// `Heap::begin`.
+    fn begin(&mut self, words: u32)
+        requires new { self.old.heap ≡ opened self.old.heap.id 4 (self.old.heap.tick - 1) }
+        requires words { IsRegion self.old.level words }
+        requires words_room { words ≤ self.old.extents.words.capacity }
+        requires starts_room { (words + 63) / 64 ≤ self.old.extents.starts.capacity }
+        ensures heap { self.new.heap ≡ opened self.old.heap.id words (self.old.heap.tick - 1) }
+        ensures level { self.new.level ≡ self.old.level }
+        ensures counts { self.new.counts ≡ self.old.counts }
+        ensures touches { self.new.touches ≤ 10 }
+    {
+        at_level!(OfLevel, &mut self.of_level, heap => heap.begin(words));
     }
 
     /// `Heap::allocate`. The name goes into `into`, and an odd block is noted in `is_mixed`.
@@ -171,6 +183,55 @@ impl AnyHeap {
             refused: self.refused.requests,
             longest_refused: self.refused.longest,
         }
+    }
+}
+
+/// Opens a heap of a level over the first four words of memory for `words`, in its box. Each level has a box of its own, so that the
+/// heap is made there.
+#[inline(always)]
+fn open_least(
+    alloc: Global,
+    level: u32,
+    id: u32,
+    words: u32,
+) -> Result<Box<HeldHeap, Global>, OpenFault>
+    requires level { IsLevel level }
+    ensures idle { IfOk result (λ owned. owned.value.is_idle ≡ true) }
+    ensures heap { IfOk result (λ owned. owned.value.heap.heap ≡ opened id 4 0) }
+    ensures level { IfOk result (λ owned. owned.value.heap.level ≡ level) }
+    ensures counts { IfOk result (λ owned. owned.value.heap.counts ≡ no_counts) }
+    ensures region { OnOk result (IsRegion level words) }
+    ensures bad_size { IsErrOf result OpenFault.BadSize ↔ ¬ (IsRegion level words) }
+    ensures no_memory { IsRegion level words → IfErr result (λ why. why ≡ OpenFault.NoMemory) }
+    ensures words_room { IfOk result (λ owned. words ≤ owned.value.heap.extents.words.capacity) }
+    ensures starts_room { IfOk result (λ owned. (words + 63) / 64 ≤ owned.value.heap.extents.starts.capacity) }
+{
+    if level == 4 {
+        let heap = Heap::<4>::open_for(alloc, id, words, 0)?;
+        boxed(alloc, OfLevel::Four(heap))
+    } else {
+        let heap = Heap::<5>::open_for(alloc, id, words, 0)?;
+        boxed(alloc, OfLevel::Five(heap))
+    }
+}
+
+/// A new heap in a box, which no call is using.
+#[inline(always)]
+fn boxed(alloc: Global, of_level: OfLevel) -> Result<Box<HeldHeap, Global>, OpenFault>
+    ensures idle { IfOk result (λ owned. owned.value.is_idle ≡ true) }
+    ensures heap { IfOk result (λ owned. owned.value.heap ≡ shown of_level none_refused) }
+    ensures no_memory { IfErr result (λ why. why ≡ OpenFault.NoMemory) }
+{
+    let held = HeldHeap {
+        is_idle: true,
+        heap: AnyHeap {
+            refused: Refused::none(),
+            of_level,
+        },
+    };
+    match Box::new(alloc, held) {
+        Ok(owned) => Ok(owned),
+        Err(_) => Err(OpenFault::NoMemory),
     }
 }
 

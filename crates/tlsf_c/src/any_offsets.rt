@@ -1,5 +1,5 @@
 //! An arena of offsets whose level is told when it is opened.
-ghost use Rattle.std.specs.Prelude.{◌≡◌, ◌≢◌, ◌+◌, ◌*◌, ◌<◌, ◌≤◌, ◌↔◌, length, IfOk, OnOk, IsErrOf, MatchResult, Ok, Err};
+ghost use Rattle.std.specs.Prelude.{◌≡◌, ◌≢◌, ◌+◌, ◌-◌, ◌*◌, ◌/◌, ◌<◌, ◌≤◌, ◌↔◌, true, length, Some, IfOk, IfErr, OnOk, IsErrOf, MatchResult, Ok, Err};
 ghost use Rattle.tlsf_heap.specs.Calls.{opened, allocated_words, resized_words};
 ghost use Rattle.tlsf_heap.specs.Effects.{Allocates, Releases, Resizes};
 ghost use Rattle.tlsf_heap.specs.Lawful.{IsRegion};
@@ -7,8 +7,11 @@ ghost use Rattle.tlsf_heap.specs.Touched.{allocate_touches, release_touches, res
 ghost use Rattle.tlsf_offsets.specs.Offsets.{IsHeld, KeepsOthers, span_units, usage_of, seen_of};
 ghost use Rattle.tlsf_offsets.specs.declared.span.Span.{Span};
 ghost use Rattle.tlsf_c.specs.OffsetLevels.{OffsetsAnswer};
+ghost use Rattle.tlsf_c.specs.Arenas.{is_arena_idle, is_offsets, offsets_of};
+ghost use Rattle.tlsf_c.specs.OffsetsOf.{offsets_shown};
 ghost use Rattle.tlsf_c.specs.Levels.{IsLevel};
 
+use crate::any_arena::AnyArena;
 use crate::at_level::at_level;
 use std::alloc::Global;
 use std::marker::Model;
@@ -38,33 +41,43 @@ impl Model for AnyOffsets {
 }
 
 impl AnyOffsets {
-    /// Opens an arena of a level, 4 or 5, over `units` units of `unit` bytes: number `id`.
+    /// Opens an arena of a level, 4 or 5, over `units` units of `unit` bytes: number `id`. No call is using it.
     pub fn open(
         alloc: Global,
         level: u32,
         id: u32,
         unit: u32,
         units: u32,
-    ) -> Result<AnyOffsets, OpenFault>
+    ) -> Result<Box<AnyArena, Global>, OpenFault>
         requires level { IsLevel level }
-        ensures heap { IfOk result (λ a. a.offsets.heap ≡ opened id units 0) }
-        ensures level { IfOk result (λ a. a.level ≡ level) }
-        ensures unit { IfOk result (λ a. a.offsets.unit ≡ unit) }
+        ensures idle { IfOk result (λ owned. is_arena_idle (Some owned.value) ≡ true) }
+        ensures kind { IfOk result (λ owned. is_offsets (Some owned.value) ≡ true) }
+        ensures heap { IfOk result (λ owned. (offsets_of (Some owned.value)).offsets.heap ≡ opened id units 0) }
+        ensures level { IfOk result (λ owned. (offsets_of (Some owned.value)).level ≡ level) }
+        ensures unit { IfOk result (λ owned. (offsets_of (Some owned.value)).offsets.unit ≡ unit) }
         ensures bad_size { IsErrOf result OpenFault.BadSize ↔ ¬ ((0 < unit) × IsRegion level units) }
         ensures not_worn { ¬ (IsErrOf result OpenFault.Worn) }
-        ensures touches { IfOk result (λ a. a.offsets.touches ≤ 10) }
+        ensures touches { IfOk result (λ owned. (offsets_of (Some owned.value)).offsets.touches ≤ 10) }
     {
-        if level == 4 {
-            let arena = OffsetArena::<4>::open(alloc, id, unit, units)?;
-            Ok(AnyOffsets {
-                of_level: OffsetsOfLevel::Four(arena),
-            })
-        } else {
-            let arena = OffsetArena::<5>::open(alloc, id, unit, units)?;
-            Ok(AnyOffsets {
-                of_level: OffsetsOfLevel::Five(arena),
-            })
+        let mut owned = open_least(alloc, level, id, unit, units)?;
+        if let AnyArena::Offsets { owned: offsets, .. } = &mut *owned {
+            offsets.begin(units);
         }
+        Ok(owned)
+    }
+
+    /// `OffsetArena::begin`.
+    fn begin(&mut self, units: u32)
+        requires new { self.old.offsets.heap ≡ opened self.old.offsets.heap.id 4 (self.old.offsets.heap.tick - 1) }
+        requires units { IsRegion self.old.level units }
+        requires words_room { units ≤ self.old.offsets.extents.words.capacity }
+        requires starts_room { (units + 63) / 64 ≤ self.old.offsets.extents.starts.capacity }
+        ensures heap { self.new.offsets.heap ≡ opened self.old.offsets.heap.id units (self.old.offsets.heap.tick - 1) }
+        ensures level { self.new.level ≡ self.old.level }
+        ensures unit { self.new.offsets.unit ≡ self.old.offsets.unit }
+        ensures touches { self.new.offsets.touches ≤ 10 }
+    {
+        at_level!(OffsetsOfLevel, &mut self.of_level, arena => arena.begin(units));
     }
 
     /// `OffsetArena::allocate`.
@@ -109,5 +122,54 @@ impl AnyOffsets {
         ensures touches { self.new.offsets.touches ≤ self.old.offsets.touches + 2 * length self.old.offsets.heap.blocks }
     {
         at_level!(OffsetsOfLevel, &mut self.of_level, arena => arena.usage())
+    }
+}
+
+/// Opens an arena of a level over the first four of `units` units, in its box. Each level has a box of its own, so that the arena is made
+/// there.
+#[inline(always)]
+fn open_least(
+    alloc: Global,
+    level: u32,
+    id: u32,
+    unit: u32,
+    units: u32,
+) -> Result<Box<AnyArena, Global>, OpenFault>
+    requires level { IsLevel level }
+    ensures idle { IfOk result (λ owned. is_arena_idle (Some owned.value) ≡ true) }
+    ensures kind { IfOk result (λ owned. is_offsets (Some owned.value) ≡ true) }
+    ensures heap { IfOk result (λ owned. (offsets_of (Some owned.value)).offsets.heap ≡ opened id 4 0) }
+    ensures level { IfOk result (λ owned. (offsets_of (Some owned.value)).level ≡ level) }
+    ensures unit { IfOk result (λ owned. (offsets_of (Some owned.value)).offsets.unit ≡ unit) }
+    ensures region { OnOk result (IsRegion level units) }
+    ensures bad_size { IsErrOf result OpenFault.BadSize ↔ ¬ ((0 < unit) × IsRegion level units) }
+    ensures not_worn { ¬ (IsErrOf result OpenFault.Worn) }
+    ensures words_room { IfOk result (λ owned. units ≤ (offsets_of (Some owned.value)).offsets.extents.words.capacity) }
+    ensures starts_room { IfOk result (λ owned. (units + 63) / 64 ≤ (offsets_of (Some owned.value)).offsets.extents.starts.capacity) }
+{
+    if level == 4 {
+        let arena = OffsetArena::<4>::open_for(alloc, id, unit, units)?;
+        boxed(alloc, OffsetsOfLevel::Four(arena))
+    } else {
+        let arena = OffsetArena::<5>::open_for(alloc, id, unit, units)?;
+        boxed(alloc, OffsetsOfLevel::Five(arena))
+    }
+}
+
+/// A new arena in a box, which no call is using.
+#[inline(always)]
+fn boxed(alloc: Global, of_level: OffsetsOfLevel) -> Result<Box<AnyArena, Global>, OpenFault>
+    ensures idle { IfOk result (λ owned. is_arena_idle (Some owned.value) ≡ true) }
+    ensures kind { IfOk result (λ owned. is_offsets (Some owned.value) ≡ true) }
+    ensures arena { IfOk result (λ owned. offsets_of (Some owned.value) ≡ offsets_shown of_level) }
+    ensures no_memory { IfErr result (λ why. why ≡ OpenFault.NoMemory) }
+{
+    let held = AnyArena::Offsets {
+        is_idle: true,
+        owned: AnyOffsets { of_level },
+    };
+    match Box::new(alloc, held) {
+        Ok(owned) => Ok(owned),
+        Err(_) => Err(OpenFault::NoMemory),
     }
 }

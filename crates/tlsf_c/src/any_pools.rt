@@ -1,12 +1,14 @@
 //! Pools whose level is told when they are opened.
-ghost use Rattle.std.specs.Prelude.{◌≡◌, ◌+◌, ◌≤◌, ◌^◌, ◌↔◌, None, length, IfOk, IfSome, IsErrOf};
+ghost use Rattle.std.specs.Prelude.{◌≡◌, ◌+◌, ◌≤◌, ◌^◌, ◌↔◌, true, None, Some, length, IfOk, IfErr, IfSome, IsErrOf};
 ghost use Rattle.tlsf_pool.specs.sizes.Rising.{HasNoHeaps};
 ghost use Rattle.tlsf_c.specs.PoolCalls.{AreNewPools, AllocatesInPools, ReleasesInPools, WritesInPools, ReadsInPools, ReportsInPools, ChecksInPools, LooksInPools};
 ghost use Rattle.tlsf_pool.specs.pools.Parts.{counts_at, part_at, table_of};
 ghost use Rattle.tlsf_pool.specs.pools.Tables as tables;
+ghost use Rattle.tlsf_c.specs.Arenas.{is_arena_idle, is_pools, pools_of};
 ghost use Rattle.tlsf_c.specs.Levels.{IsLevel};
 ghost use Rattle.tlsf_c.specs.PoolLevels.{AtLevel};
 
+use crate::any_arena::AnyArena;
 use crate::at_level::at_level;
 use std::alloc::Global;
 use std::marker::Model;
@@ -139,5 +141,23 @@ impl AnyPools {
         ensures looks { AtLevel self.old self.new (LooksInPools self.old.pools self.new.pools part at result) }
     {
         at_level!(PoolsOfLevel, &mut self.of_level, pools => pools.block_at(part, at))
+    }
+}
+
+/// Pools in a box, which no call is using. The fields of an arena of offsets, for which there is room too, are never written: a function of
+/// its own shows the compiler so.
+pub fn boxed(alloc: Global, pools: AnyPools) -> Result<Box<AnyArena, Global>, OpenFault>
+    ensures idle { IfOk result (λ owned. is_arena_idle (Some owned.value) ≡ true) }
+    ensures kind { IfOk result (λ owned. is_pools (Some owned.value) ≡ true) }
+    ensures pools { IfOk result (λ owned. pools_of (Some owned.value) ≡ pools) }
+    ensures no_memory { IfErr result (λ why. why ≡ OpenFault.NoMemory) }
+{
+    let held = AnyArena::Pools {
+        is_idle: true,
+        owned: pools,
+    };
+    match Box::new(alloc, held) {
+        Ok(owned) => Ok(owned),
+        Err(_) => Err(OpenFault::NoMemory),
     }
 }

@@ -35,7 +35,7 @@ pub struct ArenaSlot {
 }
 
 impl ArenaSlot {
-    ghost use Rattle.tlsf_c.specs.Arenas.{is_arena_idle, left_used_arena};
+    ghost use Rattle.tlsf_c.specs.Arenas.{is_arena_idle, arena_with_idle};
     ghost use Rattle.tlsf_c.specs.Serving.{arena_serves};
 
     /// Whether it is open, and no call is using it.
@@ -56,12 +56,12 @@ impl ArenaSlot {
     pub fn take_out(&mut self, alloc: Global) -> Option<Box<AnyArena, Global>>
         ensures closed { arena_serves self.new ≡ false }
         ensures none { result ≡ None → (arena_serves self.old ≡ false) × (self.new ≡ self.old) }
-        ensures some { (b : _) → result ≡ Some b → (arena_serves self.old ≡ true) × (self.new.is_open ≡ false) × (Some b.value ≡ left_used_arena self.old.inner.value) }
+        ensures some { (b : _) → result ≡ Some b → (arena_serves self.old ≡ true) × (self.new.is_open ≡ false) × (Some b.value ≡ arena_with_idle false self.old.inner.value) }
     {
         if !self.serves() {
             return None;
         }
-        self.inner.lend().set_in_use();
+        self.inner.lend().set_idle(false);
         let nowhere: *mut u8 = ptr::null_mut();
         let ArenaSlot { inner, .. } = mem::replace(
             self,

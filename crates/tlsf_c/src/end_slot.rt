@@ -35,7 +35,7 @@ pub struct EndSlot {
 }
 
 impl EndSlot {
-    ghost use Rattle.tlsf_c.specs.Ends.{is_idle, left_used};
+    ghost use Rattle.tlsf_c.specs.Ends.{is_idle, with_idle};
     ghost use Rattle.tlsf_c.specs.Handles.{end_serves};
 
     /// Whether it is open, and no call is using it.
@@ -56,12 +56,12 @@ impl EndSlot {
     pub fn take_out(&mut self, alloc: Global) -> Option<Box<AnyEnd, Global>>
         ensures closed { end_serves self.new ≡ false }
         ensures none { result ≡ None → (end_serves self.old ≡ false) × (self.new ≡ self.old) }
-        ensures some { (b : _) → result ≡ Some b → (end_serves self.old ≡ true) × (self.new.is_open ≡ false) × (Some b.value ≡ left_used self.old.inner.value) }
+        ensures some { (b : _) → result ≡ Some b → (end_serves self.old ≡ true) × (self.new.is_open ≡ false) × (Some b.value ≡ with_idle false self.old.inner.value) }
     {
         if !self.serves() {
             return None;
         }
-        self.inner.lend().set_in_use();
+        self.inner.lend().set_idle(false);
         let nowhere: *mut u8 = ptr::null_mut();
         let EndSlot { inner, .. } = mem::replace(
             self,

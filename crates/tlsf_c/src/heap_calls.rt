@@ -21,7 +21,6 @@ use crate::any_heap::AnyHeap;
 use crate::call_fault::{CallFault, status};
 use crate::heap_counts::HeapCounts;
 use crate::heap_slot::{HeapSlot, on_heap};
-use crate::held_heap::HeldHeap;
 use crate::lengths::saturated;
 use crate::names::{BlockName, HeapReport};
 use std::alloc::Global;
@@ -48,6 +47,7 @@ pub extern "C" fn tlsf_open(
 ) -> u32
     ensures refusals { OpensAtLevel heap.old.is_open level (IsRegion level words) heap.old heap.new result }
     ensures opens { result ≡ 0 → IsNewHeap heap.new level id words }
+    ensures align { heap.new.align ≡ heap.old.align }
 {
     if heap.is_open {
         return CallFault::InUse.number();
@@ -57,22 +57,13 @@ pub extern "C" fn tlsf_open(
     }
     match AnyHeap::open(alloc, level, id, words) {
         Err(fault) => fault.number(),
-        Ok(opened) => match Box::new(
-            alloc,
-            HeldHeap {
-                is_idle: true,
-                heap: opened,
-            },
-        ) {
-            Err(_) => CallFault::NoMemory.number(),
-            Ok(mut owned) => {
-                heap.base = owned.heap.base();
-                heap.number = id;
-                heap.is_mixed = false;
-                heap.put_in(owned);
-                0
-            }
-        },
+        Ok(mut owned) => {
+            heap.base = owned.heap.base();
+            heap.number = id;
+            heap.is_mixed = false;
+            heap.put_in(owned);
+            0
+        }
     }
 }
 

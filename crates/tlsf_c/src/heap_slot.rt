@@ -35,8 +35,11 @@ pub struct HeapSlot {
     pub base: *mut u64,
     /// The heap's number, for C's own names. No call reads it.
     pub number: u32,
-    /// Whether a block by name has had an odd number of words: payloads may then be misaligned to 16 bytes. Opening clears it.
+    /// Whether a block by name has had an odd number of words: payloads may then be misaligned to 16 bytes. Opening clears it. C then
+    /// notes the same of a heap whose alignment isn't that of malloc.
     pub is_mixed: bool,
+    /// The alignment of pointers in bytes, for C's own sums. C writes it before it opens. No call reads it, and none writes it.
+    pub align: u8,
     ghost tied: { is_open ≡ inner.full },
 }
 
@@ -64,7 +67,7 @@ impl HeapSlot {
         ensures mixed { NotesOdd len 0 self.old.is_mixed self.new.is_mixed }
         ensures open { self.new.is_open ≡ self.old.is_open }
         ensures value { self.new.inner.value ≡ self.old.inner.value }
-        ensures beside { (self.new.base ≡ self.old.base) × (self.new.number ≡ self.old.number) }
+        ensures beside { (self.new.base ≡ self.old.base) × (self.new.number ≡ self.old.number) × (self.new.align ≡ self.old.align) }
     {
         note_odd(&mut self.is_mixed, len);
     }

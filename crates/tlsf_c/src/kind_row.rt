@@ -6,7 +6,7 @@ use crate::lengths::saturated;
 use tlsf_pool::Kind;
 
 /// The value in a place that has no row.
-const NO_KIND: Kind = Kind { most: 0, len: 0 };
+pub const NO_KIND: Kind = Kind { most: 0, len: 0 };
 
 /// A kind of request: how many blocks of it are held at once, and how many bytes it has, at most.
 #[repr(C)]
@@ -29,14 +29,12 @@ impl KindRow {
 }
 
 /// The table of at most 64 rows, as pools have it, and places after it that have no row.
-pub fn kinds_in(rows: &[KindRow]) -> [Kind; 64]
+pub fn put_kinds(rows: &[KindRow], kinds: &mut [Kind; 64])
     requires few { length rows.now ≤ 64 }
-    ensures places { length result ≡ 64 }
-    ensures table { take (length rows.now) result ≡ kinds_of rows.now }
+    requires places { length kinds.old ≡ 64 }
+    ensures table { take (length rows.now) kinds.new ≡ kinds_of rows.now }
 {
-    let mut kinds = [NO_KIND; 64];
     for (k, row) in rows.iter().enumerate() {
         kinds[k] = row.kind();
     }
-    kinds
 }

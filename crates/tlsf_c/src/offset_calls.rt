@@ -12,7 +12,6 @@ ghost use Rattle.tlsf_c.specs.Refusals.{status_of};
 ghost use Rattle.tlsf_c.specs.Serving.{arena_serves, ClosesArena, OnKind, OpensAtLevel};
 ghost use Rattle.tlsf_c.specs.Handles.{Tells};
 
-use crate::any_arena::AnyArena;
 use crate::any_offsets::AnyOffsets;
 use crate::arena_slot::{ArenaSlot, on_arena};
 use crate::call_fault::CallFault;
@@ -51,19 +50,10 @@ pub extern "C" fn tlsf_offsets_open(
     }
     match AnyOffsets::open(alloc, level, id, unit, units) {
         Err(fault) => fault.number(),
-        Ok(opened) => match Box::new(
-            alloc,
-            AnyArena::Offsets {
-                is_idle: true,
-                owned: opened,
-            },
-        ) {
-            Err(_) => CallFault::NoMemory.number(),
-            Ok(owned) => {
-                offsets.put_in(owned);
-                0
-            }
-        },
+        Ok(owned) => {
+            offsets.put_in(owned);
+            0
+        }
     }
 }
 

@@ -11,11 +11,10 @@ ghost use Rattle.tlsf_c.specs.PoolHandles.{pools_in, pools_level, holds_pools, k
 ghost use Rattle.tlsf_c.specs.Serving.{arena_serves, ClosesArena, OpensAtLevel};
 ghost use Rattle.tlsf_c.specs.Levels.{IsLevel};
 
-use crate::any_arena::AnyArena;
-use crate::any_pools::AnyPools;
+use crate::any_pools::{AnyPools, boxed};
 use crate::arena_slot::{ArenaSlot, on_arena};
 use crate::call_fault::{CallFault, status};
-use crate::kind_row::{KindRow, kinds_in};
+use crate::kind_row::{KindRow, NO_KIND, put_kinds};
 use crate::lengths::saturated;
 use crate::names::{BlockName, HeapReport};
 use std::alloc::Global;
@@ -32,7 +31,8 @@ fn open_for(alloc: Global, level: u32, id: u32, rows: &[KindRow]) -> Result<AnyP
     ensures bad_size { IsErrOf result OpenFault.BadSize ↔ HasNoHeaps level 8 (kinds_of rows.now) }
     ensures not_worn { ¬ (IsErrOf result OpenFault.Worn) }
 {
-    let kinds = kinds_in(rows);
+    let mut kinds = [NO_KIND; 64];
+    put_kinds(rows, &mut kinds);
     let (table, _) = kinds.split_at(rows.len());
     AnyPools::open(alloc, level, id, table)
 }
@@ -70,14 +70,8 @@ pub extern "C" fn tlsf_pools_open(
     }
     match open_for(alloc, level, id, rows) {
         Err(fault) => fault.number(),
-        Ok(opened) => match Box::new(
-            alloc,
-            AnyArena::Pools {
-                is_idle: true,
-                owned: opened,
-            },
-        ) {
-            Err(_) => CallFault::NoMemory.number(),
+        Ok(opened) => match boxed(alloc, opened) {
+            Err(fault) => fault.number(),
             Ok(owned) => {
                 pools.put_in(owned);
                 0

@@ -22,7 +22,7 @@ ghost use Rattle.tlsf_c.specs.Levels.{IsLevel};
 use crate::any_pools::AnyPools;
 use crate::arena_slot::{ArenaSlot, on_arena};
 use crate::call_fault::{CallFault, check_status};
-use crate::kind_row::{KindRow, kinds_in};
+use crate::kind_row::{KindRow, NO_KIND, put_kinds};
 use crate::lengths::saturated;
 use crate::names::BlockName;
 use tlsf_heap::{Content, PlacedBlock, Refusal};
@@ -35,7 +35,8 @@ fn split_for(level: u32, rows: &[KindRow]) -> Option<Split>
     ensures least { IfSome result (IsLeast level 8 (kinds_of rows.now)) }
     ensures none { result ≡ None → HasNoHeaps level 8 (kinds_of rows.now) }
 {
-    let kinds = kinds_in(rows);
+    let mut kinds = [NO_KIND; 64];
+    put_kinds(rows, &mut kinds);
     let (table, _) = kinds.split_at(rows.len());
     if level == 4 {
         rising_split::<4>(table, MOST_HEAPS)

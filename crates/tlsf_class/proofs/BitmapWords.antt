@@ -1,8 +1,8 @@
 -- The members after the operations on the words of the bitmaps.
 use Rattle.tlsf_class.proofs.Common.{cond, filter, ◌≡◌, ◌≢◌, ℕ, ◌+◌, ◌*◌, ◌/◌, ◌%◌, ◌<◌, ◌≤◌, Bool, true, false, not, ◌&&◌, ◌||◌, eqb, List, get_or, set, length, min, Some, None, refl, sym, ap, ◌∙◌, inl, inr, arith, get_or-set_same, get_or-set_other, replicate, [], ◌↔◌, Contains, bit_at, cases_eq, cases_lt, eq-eqb, eqb-true, ne_eqb, cases_order, bit_at-zero, IsLevel, level_classes, last_class, classes}
-use Rattle.std.proofs.lemmas.List.{length-set}
+use Rattle.std.proofs.lemmas.List.{length-set, length-replicate, get_or-replicate, get_or_past}
 use Rattle.std.proofs.lemmas.List.Elements.{filter_agree}
-use Rattle.tlsf_class.proofs.TwoLevels.{by_level, split, first_at, second_at, second_below, first_inside, first_rises, second_more, same_class, first_below, second_less}
+use Rattle.tlsf_class.proofs.TwoLevels.{by_level, bounds_of, split, first_at, second_at, second_below, first_inside, first_rises, second_more, same_class, first_below, second_less}
 use Rattle.tlsf_class.specs.Members.{with_member, without_member, next_member}
 use Rattle.tlsf_class.specs.Steps.{IsInUse, IsLowestFrom}
 use Rattle.tlsf_class.specs.Bitmaps.{is_set, members_of, marked_in, AreLevels}
@@ -215,3 +215,46 @@ module _ (sli : ℕ) (level : IsLevel sli) where
 pub marked_in-zeros : (sli : ℕ) → IsLevel sli → marked_in sli 0 (replicate 21 0) ≡ []
 unfolding marked_in classes
 marked_in-zeros = by_level (λ sli. marked_in sli 0 (replicate 21 0) ≡ []) refl refl
+
+-- each word is zero, and so is what is read past the last
+zero_word : (r : ℕ) → ◌≡◌ {A = ℕ} (get_or (replicate 21 0) r 0) 0
+zero_word r = elim (cases_lt r 21) [
+  | inl inside ↦ get_or-replicate 21 r 0 0 inside
+  | inr past ↦ get_or_past (replicate 21 0) r 0 (omega (arith, length-replicate {A = ℕ} 21 0))
+]
+
+-- so they are in step
+AreLevels-zeros : (sli : ℕ) → IsLevel sli → AreLevels sli 0 (replicate 21 0)
+AreLevels-zeros sli level = record {
+  level = level;
+  first_levels = length-replicate {A = ℕ} 21 0;
+  first_bits = λ r. bit_at-zero r ∙ ap (min 1) (sym (zero_word r));
+  in_use = λ r p h. absurd (omega (arith, bit_at-zero p, ap (λ (w : ℕ). bit_at w p) (zero_word r), h));
+}
+
+-- the bits of the class of 4 words alone, in the first level and in the second
+pub record AreLeast (first word : ℕ) : Type 0 where
+  pub first_same : bit_at first 0 ≡ 1
+  pub first_others : (k : ℕ) → k ≢ 0 → bit_at first k ≡ bit_at 0 k
+  pub same : bit_at word 4 ≡ 1
+  pub others : (k : ℕ) → k ≢ 4 → bit_at word k ≡ bit_at 0 k
+
+-- so the class is the one whose bit is new in zeros
+least_bit : (sli : ℕ) (level : IsLevel sli) (first word : ℕ) → AreLeast first word → WritesBit sli level (replicate 21 0) 4 0 4 word 1
+least_bit sli level first word least =
+    let first_is : 0 ≡ 4 / level_classes sli = by_level (λ sli. 0 ≡ 4 / level_classes sli) refl refl sli level in
+    let second_is : 4 ≡ 4 % level_classes sli = by_level (λ sli. 4 ≡ 4 % level_classes sli) refl refl sli level in
+    let in_use : IsInUse sli 4 = record { level = level; least = omega arith; most = omega (arith, (bounds_of sli level).last_least) } in
+    WritesBit-read sli level (replicate 21 0) 4 0 4 0 word 1 (length-replicate {A = ℕ} 21 0) in_use first_is second_is (sym (zero_word 0)) least.same least.others
+
+pub AreLevels-least : (sli : ℕ) → IsLevel sli → (first word : ℕ) → AreLeast first word → AreLevels sli first (set (replicate 21 0) 0 word)
+AreLevels-least sli level first word least =
+    AreLevels-write sli level 0 first (replicate 21 0) 4 0 4 word 1 (AreLevels-zeros sli level) (least_bit sli level first word least)
+    (omega (arith, some_bit sli level word 4 least.same, least.first_same)) least.first_others
+
+pub marked_in-least : (sli : ℕ) → IsLevel sli → (first word : ℕ) → AreLeast first word → marked_in sli first (set (replicate 21 0) 0 word) ≡ with_member sli [] 4
+marked_in-least sli level first word least =
+    let none = sym (marked_in-members sli level 0 (replicate 21 0) (AreLevels-zeros sli level)) ∙ marked_in-zeros sli level in
+    marked_in-members sli level first (set (replicate 21 0) 0 word) (AreLevels-least sli level first word least)
+    ∙ members_of-set sli level (replicate 21 0) 4 0 4 word (least_bit sli level first word least)
+    ∙ ap (λ (members : List ℕ). with_member sli members 4) none

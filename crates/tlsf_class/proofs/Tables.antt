@@ -1,5 +1,6 @@
 -- The definitions against known values.
-use Rattle.tlsf_class.proofs.Common.{◌≡◌, ℕ, Some, refl, List, [], ◌∷◌, map, low, classes, class_of, search_of}
+use Rattle.tlsf_class.proofs.Common.{◌≡◌, ℕ, Some, refl, List, [], ◌∷◌, map, low, classes, class_of, search_of, IsLevel}
+use Rattle.tlsf_class.proofs.TwoLevels.{by_level}
 
 -- the least sizes of the first and the last class of first levels 0, 1, 2, 3 and 16, and of the last class
 lows_of_first_levels : map (low 4) (4 ∷ 15 ∷ 16 ∷ 31 ∷ 32 ∷ 47 ∷ 48 ∷ 63 ∷ 256 ∷ 271 ∷ 272 ∷ []) ≡ 4 ∷ 15 ∷ 16 ∷ 31 ∷ 32 ∷ 62 ∷ 64 ∷ 124 ∷ 524288 ∷ 1015808 ∷ 1048576 ∷ []
@@ -44,3 +45,8 @@ fine_class_numbers = refl
 fine_search_numbers : map (search_of 5) fine_sizes ≡ map Some (4 ∷ 31 ∷ 32 ∷ 63 ∷ 64 ∷ 65 ∷ 154 ∷ 512 ∷ 640 ∷ 640 ∷ [])
 unfolding low classes search_of
 fine_search_numbers = refl
+
+-- a block of 4 words is of the first class
+pub class_of-first : (sli : ℕ) → IsLevel sli → class_of sli 4 ≡ 4
+unfolding low classes class_of
+class_of-first = by_level (λ sli. class_of sli 4 ≡ 4) refl refl

@@ -40,6 +40,7 @@ impl<const SLI: u32> Bitmaps<SLI> {
     /// ```
     /// let none = Bitmaps::<4>::new().next_from(class_of(4));     // None
     /// ```
+    #[inline(always)]
     pub fn new() -> Bitmaps<SLI>
         requires { IsLevel SLI }
         ensures members { result.members ≡ [] }
@@ -47,6 +48,22 @@ impl<const SLI: u32> Bitmaps<SLI> {
     {
         Bitmaps {
             levels: Levels::new(),
+        }
+    }
+
+    /// The set of the class of 4 words, the first. It makes no touch.
+    ///
+    /// ```
+    /// let least = Bitmaps::<4>::of_least().next_from(class_of(4));     // Some: class 4
+    /// ```
+    #[inline(always)]
+    pub fn of_least() -> Bitmaps<SLI>
+        requires { IsLevel SLI }
+        ensures members { result.members ≡ with_member SLI [] 4 }
+        ensures touches { result.touches ≡ 0 }
+    {
+        Bitmaps {
+            levels: Levels::of_first(with_bit(0, 0), with_bit(0, 4)),
         }
     }
 

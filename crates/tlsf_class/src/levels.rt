@@ -26,12 +26,27 @@ impl Model for Levels {
 
 impl Levels {
     /// Every word is zero.
+    #[inline(always)]
     pub(crate) fn new() -> Levels
         ensures { result ≡ record { first = 0; second = replicate 21 0; touches = 0 } }
     {
         Levels {
             first: 0,
             second: [0; 21],
+            touches: Touches::new(),
+        }
+    }
+
+    /// The first word of the first level, and the first of the second. All others are zero.
+    #[inline(always)]
+    pub(crate) fn of_first(first: u32, second: u32) -> Levels
+        ensures { result ≡ record { first = first; second = slice_set (replicate 21 0) 0 second; touches = 0 } }
+    {
+        let mut words = [0; 21];
+        words[0] = second;
+        Levels {
+            first,
+            second: words,
             touches: Touches::new(),
         }
     }

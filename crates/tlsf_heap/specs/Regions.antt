@@ -1,9 +1,9 @@
 -- A region as its blocks and the lists of its free blocks.
 use Rattle.std.specs.Prelude.{◌≡◌, ◌≢◌, ℕ, ◌+◌, ◌<◌, ◌≤◌, ◌==◌, List, [], ◌∷◌, ◌++◌, length, slice_index_or, true, false}
 use Rattle.std.specs.List.{AllByRecursion}
-use Rattle.tlsf_class.specs.Classes.{IsLevel, most_words}
+use Rattle.tlsf_class.specs.Classes.{IsLevel, most_words, class_of}
 use Rattle.tlsf_words.specs.Memory.{Memory, Extents}
-use Rattle.tlsf_words.specs.Lists.{nowhere, without_place, LinkedFrom, IsUnlisted}
+use Rattle.tlsf_words.specs.Lists.{ListHeads, nowhere, without_place, LinkedFrom, IsUnlisted}
 use Rattle.tlsf_words.specs.Touched.{InGroups}
 use Rattle.tlsf_words.specs.declared.tag.Tag.{Tag}
 use Rattle.tlsf_heap.specs.Blocks.{Block, Live, Free, size_of, words_in, is_free, bytes_of, words_for, stamps, StandsAt}
@@ -12,6 +12,8 @@ use Rattle.tlsf_heap.specs.GoodFit.{Site, site_at, place_of}
 use Rattle.tlsf_heap.specs.FreePlaces.{AreFreeLists, AreMarked}
 use Rattle.tlsf_heap.specs.Image.{Image, back_behind, Shows}
 use Rattle.tlsf_heap.specs.Lawful.{IsRegion}
+use Rattle.tlsf_heap.specs.Listed.{lists_of}
+use Rattle.tlsf_heap.specs.Read.{blocks_of}
 use Rattle.tlsf_heap.specs.Footprint.{LeavesLive, LeavesPayloads}
 
 -- the view of a region: how many words it has, its blocks, and for each class the places in its free list, from the head. Also the
@@ -137,12 +139,20 @@ AreLinked lists words = (class : ℕ) → LinkedFrom words nowhere (lists class)
 abbrev pub image_of : Memory → Image
 image_of m = record { words = m.words; starts = m.starts }
 
--- one free block of this many words fills the region, and is in no list yet
-pub record IsOpened (size stamp : ℕ) (r : RegionState) : Type 0 where
+-- what the words and the lists of a region show
+abbrev pub region_of : Memory → ListHeads → RegionState
+region_of m l = record { words = length m.words; blocks = blocks_of m.words; lists = lists_of l.heads m.words; marked = l.members; stored = image_of m; extents = m.extents; touches = m.touches + l.touches; touched = m.touched }
+
+-- one free block of this many words fills the region, and is alone in the lists
+pub record IsAlone (sli size stamp : ℕ) (r : RegionState) : Type 0 where
+  pub least : 4 ≤ size
   pub words : r.words ≡ size
   pub blocks : r.blocks ≡ Free size stamp ∷ []
-  pub lists : (class : ℕ) → list_in r.lists class ≡ []
-  pub touches : r.touches ≡ 3
+  pub list : list_in r.lists (class_of sli size) ≡ 0 ∷ []
+  pub others : (other : ℕ) → other ≢ class_of sli size → list_in r.lists other ≡ []
+  pub shows : Shows r.stored r.blocks
+  pub linked : AreLinked (list_in r.lists) r.stored.words
+  pub bits : AreMarked r.marked (list_in r.lists)
 
 -- nothing changes but the touches, which rise by `most` at most
 pub record OnlyReads (old new : RegionState) (most : ℕ) : Type 0 where

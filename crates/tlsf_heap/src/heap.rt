@@ -45,7 +45,7 @@ use crate::tally::Tally;
 use crate::usage::Usage;
 use std::alloc::Global;
 use std::marker::Model;
-use tlsf_class::{class_of, most_words};
+use tlsf_class::most_words;
 use tlsf_words::{Tag, Words};
 
 /// A heap over a region of words, kept by two-level segregated fit (ECRTS 2004, section 3).
@@ -122,22 +122,69 @@ impl<const SLI: u32> Heap<SLI> {
         // Three for the header of the free block and its start bit, and seven at most to list it. The first zeros aren't counted.
         ensures touches { IfOk result (λ heap. heap.touches ≤ 10) }
     {
+        let mut heap = Heap::open_for(alloc, id, words, first)?;
+        heap.begin(words);
+        Ok(heap)
+    }
+
+    /// Opens a heap of number `id` over the first four words of memory for `words`. It is one free block, stamped with the tick
+    /// `first`. [`Heap::begin`] makes it one of all these words. So a heap is made where it lies, and is not copied.
+    ///
+    /// Refused as [`Heap::open`].
+    ///
+    /// ```text
+    /// let heap = Heap::<4>::open_for(alloc, 0, 64, 0)?;   // memory for 64 words, of which it has 4
+    /// ```
+    #[inline(always)]
+    pub fn open_for(alloc: Global, id: u32, words: u32, first: u64) -> Result<Heap<SLI>, OpenFault>
+        requires { IsLevel SLI }
+        ensures heap { IfOk result (λ heap. heap.heap ≡ opened id 4 first) }
+        ensures lawful { IfOk result (λ heap. IsLawful heap.heap) }
+        ensures region { OnOk result (IsRegion SLI words) }
+        ensures bad_size { IsErrOf result OpenFault.BadSize ↔ ¬ (IsRegion SLI words) }
+        ensures worn { IsRegion SLI words → (IsErrOf result OpenFault.Worn ↔ (first ≡ last_tick)) }
+        ensures most { IfOk result (λ heap. heap.most_in_use ≡ 0) }
+        ensures words_room { IfOk result (λ heap. words ≤ heap.extents.words.capacity) }
+        ensures starts_room { IfOk result (λ heap. (words + 63) / 64 ≤ heap.extents.starts.capacity) }
+    {
         if words < 4 || words > most_words::<SLI>() {
             return Err(OpenFault::BadSize);
         }
         if first == u64::MAX {
             return Err(OpenFault::Worn);
         }
-        let Ok(mut region) = Region::open(alloc, words, first) else {
+        let Ok(region) = Region::open_for(alloc, words, first) else {
             return Err(OpenFault::NoMemory);
         };
-        region.push(class_of(words), 0);
         Ok(Heap {
             id,
             tick: first + 1,
             usage: Usage::none(),
             region,
         })
+    }
+
+    /// Makes a heap that is new, and has four words, one of `words` words, for which [`Heap::open_for`] took the memory. The touches are
+    /// counted from here on.
+    ///
+    /// ```text
+    /// let mut heap = Heap::<4>::open_for(alloc, 0, 64, 0)?;
+    /// heap.begin(64);                                     // as `Heap::open` gives it
+    /// ```
+    pub fn begin(&mut self, words: u32)
+        requires new { self.old.heap ≡ opened self.old.heap.id 4 (self.old.heap.tick - 1) }
+        requires words { IsRegion SLI words }
+        requires words_room { words ≤ self.old.extents.words.capacity }
+        requires starts_room { (words + 63) / 64 ≤ self.old.extents.starts.capacity }
+        ensures heap { self.new.heap ≡ opened self.old.heap.id words (self.old.heap.tick - 1) }
+        ensures lawful { IsLawful self.new.heap }
+        ensures shows { Shows self.new.stored self.new.heap.blocks }
+        ensures lists { ShowsLists SLI self.new.stored self.new.marked self.new.heap.blocks }
+        ensures most { self.new.most_in_use ≡ self.old.most_in_use }
+        ensures touches { self.new.touches ≤ 10 }
+    {
+        let stamp = self.tick - 1;
+        self.region.lengthen(words, stamp);
     }
 
     /// Gives a block that holds `len` bytes of payload, all zero: good fit, of the last that became free (ECRTS 2004,

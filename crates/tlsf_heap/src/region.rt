@@ -1,11 +1,11 @@
 ghost use Rattle.std.specs.Fn.{FnOnceReturnsAt, FnOnceReturnsAtMut, FnOnceTakesAt, FnOnceTakesAtMut};
-ghost use Rattle.std.specs.Prelude.{◌≡◌, ◌≢◌, ◌↔◌, ℕ, ◌+◌, ◌*◌, ◌/◌, ◌-◌, ◌<◌, ◌≤◌, [], ◌∷◌, ◌++◌, false, true, length, take, drop, replicate, Some, slice_get, Contains, IfOk};
+ghost use Rattle.std.specs.Prelude.{◌≡◌, ◌≢◌, ◌↔◌, ℕ, ◌+◌, ◌*◌, ◌/◌, ◌-◌, ◌<◌, ◌≤◌, List, [], ◌∷◌, ◌++◌, false, true, length, take, drop, replicate, Some, slice_get, Contains, IfOk};
 ghost use Rattle.std.specs.List.{AllByRecursion};
 ghost use Rattle.tlsf_class.specs.Classes.{IsLevel, most_words, class_of};
 ghost use Rattle.tlsf_class.specs.Members.{next_member};
 ghost use Rattle.tlsf_words.specs.Bytes.{bytes_in, payload_byte};
 ghost use Rattle.tlsf_words.specs.Touched.{InGroups, times};
-ghost use Rattle.tlsf_words.specs.Lists.{without_place, listed_classes, IsUnlisted};
+ghost use Rattle.tlsf_words.specs.Lists.{without_place, list_of, listed_classes, AreThreaded, IsUnlisted};
 ghost use Rattle.tlsf_heap.specs.Aligned.{IsFreeTest};
 ghost use Rattle.tlsf_heap.specs.Blocks.{Live, Free, size_of, is_free, bytes_of, words_for, want, StandsAt, IsPlace};
 ghost use Rattle.tlsf_heap.specs.GoodFit.{block_at};
@@ -22,7 +22,8 @@ ghost use Rattle.tlsf_heap.specs.Lawful.{HasRoom};
 ghost use Rattle.tlsf_heap.specs.Named.{IsNameTest};
 ghost use Rattle.tlsf_heap.specs.Placed.{placed_at};
 ghost use Rattle.tlsf_heap.specs.Touched.{groups_of, reset_touches};
-ghost use Rattle.tlsf_heap.specs.Regions.{list_in, AreUnlisted, EachAt, HasAt, IsTagOf, AreNeighbours, IsWhole, AwaitsZeros, image_of, OnlyReads, Edits, Rewrites, PutInFront, TakenOut, IsOpened};
+ghost use Rattle.tlsf_heap.specs.Regions.{list_in, AreUnlisted, EachAt, HasAt, IsTagOf, AreNeighbours, IsWhole, AwaitsZeros, image_of, OnlyReads, Edits, Rewrites, PutInFront, TakenOut, IsAlone, region_of};
+ghost use Rattle.tlsf_heap.specs.Listed.{HoldsLists};
 
 mod around;
 
@@ -36,10 +37,10 @@ use crate::placed_block::{Content, PlacedBlock};
 use std::alloc::Global;
 use std::marker::Model;
 use tlsf_class::{Class, class_of};
-use tlsf_words::{FreeLists, NoMemory, Tag, Words};
+use tlsf_words::{FreeLists, Links, NO_PLACE, NoMemory, Tag, Words};
 
 /// The words of a region, seen as the blocks that they show, one after the other. Their links thread the lists of free blocks, one
-/// for each class. A block is known by its place. Sizes and places are in words. Nothing but `open` allocates. Its touches are
+/// for each class. A block is known by its place. Sizes and places are in words. Nothing but `open_for` allocates. Its touches are
 /// those of the words and of the lists together.
 #[derive(Drop)]
 pub struct Region<const SLI: u32> {
@@ -60,38 +61,81 @@ impl<const SLI: u32> Model for Region<SLI> {
     ghost invariant = { λ r. HoldsLists SLI (image_of r.words) r.lists };
 }
 
+/// Makes a region where no block starts one free block, and puts it into its list: no list has a place before. No word is read or
+/// written but the three of the block's header.
+#[inline(always)]
+fn fill<const SLI: u32>(words: &mut Words, lists: &mut FreeLists<SLI>, stamp: u64)
+    requires level { IsLevel SLI }
+    requires most { length words.old.words ≤ most_words SLI }
+    requires starts { words.old.starts ≡ replicate (length words.old.words) false }
+    requires empty { (now : List ℕ) (class : ℕ) → list_of lists.old.heads now class ≡ [] }
+    requires threaded { (now : List ℕ) → AreThreaded SLI lists.old.heads lists.old.members now }
+    ensures holds { HoldsLists SLI (image_of words.new) lists.new }
+    ensures alone { IsAlone SLI (length words.old.words) stamp (region_of words.new lists.new) }
+    ensures stays { words.new.extents ≡ words.old.extents }
+    ensures touches { words.new.touches + lists.new.touches ≤ words.old.touches + lists.old.touches + 10 }
+    ensures rise { words.old.touches + lists.old.touches ≤ words.new.touches + lists.new.touches }
+    ensures touched { (k : ℕ) → 3 ≤ k → times words.new.touched k ≡ times words.old.touched k }
+{
+    let class = class_of(words.len());
+    first_header(words, stamp);
+    lists.push(words, class, 0);
+}
+
 impl<const SLI: u32> Region<SLI> {
-    /// A region of `words` words, from 4 to as many as one of the level may have, that is one free block.
-    pub fn open(alloc: Global, words: u32, stamp: u64) -> Result<Region<SLI>, NoMemory>
+    /// A region of four words, one free block that is alone in the lists, in memory for `words`.
+    #[inline(always)]
+    pub fn open_for(alloc: Global, words: u32, stamp: u64) -> Result<Region<SLI>, NoMemory>
         requires level { IsLevel SLI }
         requires least { 4 ≤ words }
         requires most { words ≤ most_words SLI }
-        ensures { IfOk result (IsOpened words stamp) }
+        ensures alone { IfOk result (IsAlone SLI 4 stamp) }
+        ensures words_room { IfOk result (λ region. words ≤ region.extents.words.capacity) }
+        ensures starts_room { IfOk result (λ region. (words + 63) / 64 ≤ region.extents.starts.capacity) }
     {
-        let mut region = Words::open(alloc, words)?;
+        let mut region = Words::open_for(alloc, words)?;
         first_header(&mut region, stamp);
+        region.set_links(
+            0,
+            Links {
+                next: NO_PLACE,
+                previous: NO_PLACE,
+            },
+        );
         Ok(Region {
             words: region,
-            lists: FreeLists::new(),
+            lists: FreeLists::of_least(),
         })
+    }
+
+    /// Makes the region one free block of `words` words, which is alone in the lists. Up to now no list had a place but that of 4 words.
+    /// The touches are counted from here on.
+    pub fn lengthen(&mut self, words: u32, stamp: u64)
+        requires level { IsLevel SLI }
+        requires least { self.old.words ≤ words }
+        requires most { words ≤ most_words SLI }
+        requires words_room { words ≤ self.old.extents.words.capacity }
+        requires starts_room { (words + 63) / 64 ≤ self.old.extents.starts.capacity }
+        requires others { (other : ℕ) → other ≢ 4 → list_in self.old.lists other ≡ [] }
+        ensures alone { IsAlone SLI words stamp self.new }
+        ensures touches { self.new.touches ≤ 10 }
+    {
+        self.words.lengthen(words);
+        self.lists.leave_least();
+        fill(&mut self.words, &mut self.lists, stamp);
     }
 
     /// Makes the region one free block, which is alone in the lists. No word is read or written but the three of its header.
     pub fn reset(&mut self, stamp: u64)
         requires level { IsLevel SLI }
         requires most { self.old.words ≤ most_words SLI }
-        ensures least { 4 ≤ self.old.words }
-        ensures blocks { self.new.blocks ≡ Free self.old.words stamp ∷ [] }
-        ensures list { list_in self.new.lists (class_of SLI self.old.words) ≡ 0 ∷ [] }
-        ensures others { (other : ℕ) → other ≢ class_of SLI self.old.words → list_in self.new.lists other ≡ [] }
+        ensures alone { IsAlone SLI self.old.words stamp self.new }
         ensures edits { Edits self.old self.new (reset_touches + (self.old.words + 63) / 64) }
         ensures touched { (k : ℕ) → 3 ≤ k → times self.new.touched k ≡ times self.old.touched k }
     {
-        let words = self.words.len();
         self.words.clear_starts();
-        first_header(&mut self.words, stamp);
         self.lists.clear();
-        self.lists.push(&mut self.words, class_of(words), 0);
+        fill(&mut self.words, &mut self.lists, stamp);
     }
 
     /// The number of words.

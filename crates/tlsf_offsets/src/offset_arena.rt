@@ -1,4 +1,4 @@
-ghost use Rattle.std.specs.Prelude.{◌≡◌, ◌≢◌, ◌↔◌, ◌+◌, ◌*◌, ◌<◌, ◌≤◌, min, length, IfOk, OnOk, OnErr, IsErrOf, MatchResult, Ok, Err};
+ghost use Rattle.std.specs.Prelude.{◌≡◌, ◌≢◌, ◌↔◌, ◌+◌, ◌-◌, ◌*◌, ◌/◌, ◌<◌, ◌≤◌, min, length, IfOk, OnOk, OnErr, IsErrOf, MatchResult, Ok, Err};
 ghost use Rattle.tlsf_class.specs.Classes.{IsLevel};
 ghost use Rattle.tlsf_heap.specs.Calls.{opened, allocated_words, resized_words};
 ghost use Rattle.tlsf_heap.specs.Lawful.{IsRegion};
@@ -66,11 +66,60 @@ impl<const SLI: u32> OffsetArena<SLI> {
         ensures lawful { IfOk result (λ arena. IsOffsets SLI arena) }
         ensures touches { IfOk result (λ arena. arena.touches ≤ 10) }
     {
+        let mut arena = OffsetArena::open_for(alloc, id, unit, units)?;
+        arena.begin(units);
+        Ok(arena)
+    }
+
+    /// Opens an arena of number `id` over the first four of `units` units of `unit` bytes each. [`OffsetArena::begin`] makes it one of all
+    /// of them. So an arena is made where it lies, and is not copied.
+    ///
+    /// Refused as [`OffsetArena::open`].
+    ///
+    /// ```text
+    /// let arena = OffsetArena::<4>::open_for(alloc, 0, 65_536, 4_096)?;    // of 4 units
+    /// ```
+    #[inline(always)]
+    pub fn open_for(
+        alloc: Global,
+        id: u32,
+        unit: u32,
+        units: u32,
+    ) -> Result<OffsetArena<SLI>, OpenFault>
+        requires { IsLevel SLI }
+        ensures heap { IfOk result (λ arena. arena.heap ≡ opened id 4 0) }
+        ensures unit { IfOk result (λ arena. arena.unit ≡ unit) }
+        ensures region { OnOk result (IsRegion SLI units) }
+        ensures bad_size { IsErrOf result OpenFault.BadSize ↔ ¬ ((0 < unit) × IsRegion SLI units) }
+        ensures not_worn { ¬ (IsErrOf result OpenFault.Worn) }
+        ensures words_room { IfOk result (λ arena. units ≤ arena.extents.words.capacity) }
+        ensures starts_room { IfOk result (λ arena. (units + 63) / 64 ≤ arena.extents.starts.capacity) }
+    {
         if unit == 0 {
             return Err(OpenFault::BadSize);
         }
-        let heap = Heap::open(alloc, id, units, 0)?;
+        let heap = Heap::open_for(alloc, id, units, 0)?;
         Ok(OffsetArena { heap, unit })
+    }
+
+    /// Makes an arena that is new, and has four units, one of `units` units, for which [`OffsetArena::open_for`] took the memory. The
+    /// touches are counted from here on.
+    ///
+    /// ```text
+    /// let mut arena = OffsetArena::<4>::open_for(alloc, 0, 65_536, 4_096)?;
+    /// arena.begin(4_096);                                                  // as `OffsetArena::open` gives it
+    /// ```
+    pub fn begin(&mut self, units: u32)
+        requires new { self.old.heap ≡ opened self.old.heap.id 4 (self.old.heap.tick - 1) }
+        requires units { IsRegion SLI units }
+        requires words_room { units ≤ self.old.extents.words.capacity }
+        requires starts_room { (units + 63) / 64 ≤ self.old.extents.starts.capacity }
+        ensures heap { self.new.heap ≡ opened self.old.heap.id units (self.old.heap.tick - 1) }
+        ensures unit { self.new.unit ≡ self.old.unit }
+        ensures lawful { IsOffsets SLI self.new }
+        ensures touches { self.new.touches ≤ 10 }
+    {
+        self.heap.begin(units);
     }
 
     /// Gives a span of at least `len` bytes, by good fit (ECRTS 2004, sections 3 and 4).

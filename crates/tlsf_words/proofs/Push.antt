@@ -1,10 +1,11 @@
 -- A place is put at the head of a list.
-use Rattle.tlsf_words.proofs.Common.{◌≡◌, ◌≢◌, ℕ, ◌+◌, ◌-◌, ◌^◌, ◌<◌, ◌≤◌, List, [], ◌∷◌, length, get_or, set, sym, ap, ◌∙◌, subst, inl, inr, arith, get_or-set_same, get_or-set_other, Contains, cases_eq, length-set, length-range_with_len, get_or-range_with_len, IsLevel, last_class, classes, with_member, low_half, links_word, nowhere, list_of, first_of, LinkedFrom, AreDistinct, listed_classes, IsUnlisted, OnlyLinksChange, ListHeads, AreThreaded}
+use Rattle.tlsf_words.proofs.Common.{◌≡◌, ◌≢◌, ℕ, ◌+◌, ◌-◌, ◌^◌, ◌<◌, ◌≤◌, List, [], ◌∷◌, length, get_or, set, refl, sym, ap, ◌∙◌, subst, inl, inr, arith, get_or-set_same, get_or-set_other, Contains, cases_eq, length-set, length-range_with_len, get_or-range_with_len, IsLevel, last_class, classes, with_member, low_half, links_word, nowhere, list_of, first_of, LinkedFrom, AreDistinct, listed_classes, IsUnlisted, OnlyLinksChange, ListHeads, AreThreaded}
 use Rattle.tlsf_words.proofs.FieldLaws.{low_half-links_word}
 use Rattle.tlsf_words.proofs.ListedClasses.{some-cons, some-first, listed-with, listed-same}
 use Rattle.tlsf_words.proofs.PlaceLists.{member_here, member_behind, member_cases, first_member, all_member, all_from_members}
-use Rattle.tlsf_words.specs.Relinks.{Relists}
-use Rattle.tlsf_words.proofs.Threads.{head-list_of, head_listed, listed_within, first_small, linked-kept, with_list, NewList, NewList-list, NewList-others, NewList-threaded}
+use Rattle.tlsf_class.proofs.TwoLevels.{bounds_of}
+use Rattle.tlsf_words.specs.Relinks.{ListsLeast, Relists}
+use Rattle.tlsf_words.proofs.Threads.{head-list_of, list_of-nowhere, threaded-none, head_listed, listed_within, first_small, linked-kept, with_list, NewList, NewList-list, NewList-others, NewList-threaded}
 
 -- the links of a place at the head, which comes before `next`
 pub record IsAtHead (w v : List ℕ) (at next : ℕ) : Type 0 where
@@ -150,3 +151,33 @@ pushed {sli = sli} {old = old} {new = new} {w = w} {v = v} {class = class} {at =
   others = push-others sli old.heads old.members w class at new.heads new.members v t p;
   words = push-words sli old.heads old.members w class at new.heads new.members v t p;
 }
+
+-- the place 0 is put into lists that have none, into that of 4 words, and its links name none
+pub least_listed : (sli : ℕ) → IsLevel sli → (none heads members w : List ℕ) → ((class : ℕ) → get_or none class nowhere ≡ nowhere)
+    → get_or heads 4 nowhere ≡ 0 → ((class : ℕ) → class ≢ 4 → get_or heads class nowhere ≡ get_or none class nowhere) → members ≡ with_member sli [] 4
+    → 2 < length w → length w ≤ 2 ^ 24 → get_or w 2 0 ≡ links_word nowhere nowhere → ListsLeast sli heads members w
+least_listed sli level none heads members w nothing head kept marked inside small links =
+    let empty : (class : ℕ) → list_of none w class ≡ [] = λ class. list_of-nowhere none w class (nothing class) in
+    let writes : PushWrites sli none [] w 4 0 heads members w = record {
+      level = level;
+      small = small;
+      inside = inside;
+      unlisted = λ class listed. absurd (omega (arith, listed.1, ap (length {A = ℕ}) (empty class)));
+      in_use = class_in_use sli level 4 (omega arith) (omega (arith, (bounds_of sli level).last_least));
+      long = refl;
+      at_head = record {
+        here = links ∙ ap (λ (n : ℕ). links_word n nowhere) (sym (nothing 4));
+        behind = λ some. absurd (some (nothing 4));
+        others = λ k _ _. refl;
+      };
+      head = head;
+      heads_kept = kept;
+      was_empty = λ _. marked;
+      was_some = λ some. absurd (some (nothing 4));
+    } in
+    let threaded = threaded-none sli level none [] w nothing refl in
+    record {
+      threaded = push-threaded sli none [] w 4 0 heads members w threaded writes;
+      list = push-list sli none [] w 4 0 heads members w threaded writes ∙ ap (λ (places : List ℕ). 0 ∷ places) (empty 4);
+      others = λ class other. push-others sli none [] w 4 0 heads members w threaded writes class other ∙ empty class;
+    }

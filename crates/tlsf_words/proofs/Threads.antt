@@ -194,12 +194,12 @@ none_listed : (sli : ℕ) → IsLevel sli → [] ≡ listed_classes sli (λ _. [
 none_listed = by_level (λ sli. [] ≡ listed_classes sli (λ _. [])) empty_4 empty_5
 
 -- no list has a place
-pub threaded-none : (sli : ℕ) → IsLevel sli → (heads w : List ℕ) → ((class : ℕ) → get_or heads class nowhere ≡ nowhere) → AreThreaded sli heads [] w
-threaded-none sli level heads w none = are_threaded sli heads [] w (λ _. []) record {
+pub threaded-none : (sli : ℕ) → IsLevel sli → (heads members w : List ℕ) → ((class : ℕ) → get_or heads class nowhere ≡ nowhere) → members ≡ [] → AreThreaded sli heads members w
+threaded-none sli level heads members w none unmarked = are_threaded sli heads members w (λ _. []) record {
   is = λ class. list_of-nowhere heads w class (none class);
   linked = λ class. tt;
   distinct = λ class. tt;
   apart = λ a b at m n. absurd (omega (arith, m.1));
-  marked = none_listed sli level;
+  marked = unmarked ∙ none_listed sli level;
   in_use = λ class some. absurd (some refl);
 }

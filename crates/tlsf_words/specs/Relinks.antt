@@ -1,8 +1,14 @@
 -- The lists and the words that thread them, after a call of free lists.
-use Rattle.std.specs.Prelude.{◌≡◌, ◌≢◌, ℕ, ◌+◌, ◌≤◌, List, length}
+use Rattle.std.specs.Prelude.{◌≡◌, ◌≢◌, ℕ, ◌+◌, ◌≤◌, List, [], ◌∷◌, length}
 use Rattle.tlsf_words.specs.Lists.{ListHeads, list_of, AreThreaded, OnlyLinksChange}
 use Rattle.tlsf_words.specs.Memory.{Memory}
 use Rattle.tlsf_words.specs.Touched.{InGroups, OnlyLinks}
+
+-- the place 0 is alone in the lists, in that of 4 words, and the links thread them
+pub record ListsLeast (sli : ℕ) (heads members words : List ℕ) : Type 0 where
+  pub threaded : AreThreaded sli heads members words
+  pub list : list_of heads words 4 ≡ 0 ∷ []
+  pub others : (class : ℕ) → class ≢ 4 → list_of heads words class ≡ []
 
 -- the list of a class has these places now, and each other list those that it had. The links thread the lists, and no word has changed
 -- but links

@@ -5,7 +5,7 @@ ghost use Rattle.tlsf_words.specs.Fields.{links_word, low_half, high_half};
 ghost use Rattle.tlsf_words.specs.Frame.{Reads, Writes};
 ghost use Rattle.tlsf_words.specs.Lists.{nowhere, list_of, without_place, AreThreaded, IsUnlisted};
 ghost use Rattle.tlsf_words.specs.Ties.{AreTied};
-ghost use Rattle.tlsf_words.specs.Relinks.{Relists, Relinks, TouchesLinks};
+ghost use Rattle.tlsf_words.specs.Relinks.{ListsLeast, Relists, Relinks, TouchesLinks};
 ghost use Rattle.tlsf_words.specs.Touched.{OnlyTied};
 
 use crate::heads::{Heads, NO_PLACE};
@@ -47,6 +47,7 @@ impl<const SLI: u32> FreeLists<SLI> {
     /// ```
     /// let none = FreeLists::<4>::new().next_from(class_of(4));     // None
     /// ```
+    #[inline(always)]
     pub fn new() -> FreeLists<SLI>
         requires { IsLevel SLI }
         ensures empty { (words : List ℕ) (class : ℕ) → list_of result.heads words class ≡ [] }
@@ -57,6 +58,44 @@ impl<const SLI: u32> FreeLists<SLI> {
             heads: Heads::new(),
             bitmaps: Bitmaps::new(),
         }
+    }
+
+    /// The place 0 alone, in the list of 4 words. It makes no touch, and no word is written: the links of the place name none.
+    ///
+    /// ```
+    /// let first = FreeLists::<4>::of_least().first(class_of(4));     // Some(0)
+    /// ```
+    #[inline(always)]
+    pub fn of_least() -> FreeLists<SLI>
+        requires { IsLevel SLI }
+        ensures least { (words : List ℕ) → 2 < length words → length words ≤ 2 ^ 24 → slice_index words 2 ≡ links_word nowhere nowhere → ListsLeast SLI result.heads result.members words }
+        ensures touches { result.touches ≡ 0 }
+    {
+        let mut heads = Heads::new();
+        heads.begin_least(0);
+        FreeLists {
+            heads,
+            bitmaps: Bitmaps::of_least(),
+        }
+    }
+
+    /// Takes out the place that is in the list of 4 words, where no other list has one. The touches are counted from here on. No word
+    /// of the region is read or written.
+    ///
+    /// ```
+    /// let mut lists = FreeLists::<4>::of_least();
+    /// lists.leave_least();
+    /// let none = lists.next_from(class_of(4));     // None
+    /// ```
+    pub fn leave_least(&mut self)
+        requires level { IsLevel SLI }
+        requires others { (class : ℕ) → class ≢ 4 → slice_index_or self.old.heads class nowhere ≡ nowhere }
+        ensures empty { (words : List ℕ) (class : ℕ) → list_of self.new.heads words class ≡ [] }
+        ensures threaded { (words : List ℕ) → AreThreaded SLI self.new.heads self.new.members words }
+        ensures touches { self.new.touches ≡ 0 }
+    {
+        self.heads.begin_least(NO_PLACE);
+        self.bitmaps = Bitmaps::new();
     }
 
     /// Takes every place out of its list. It makes 663 touches: one for each head and each word of the bitmaps. No word of the

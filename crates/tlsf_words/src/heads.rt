@@ -34,6 +34,7 @@ impl<const SLI: u32> Model for Heads<SLI> {
 
 impl<const SLI: u32> Heads<SLI> {
     /// No list has a place.
+    #[inline(always)]
     pub(crate) fn new() -> Heads<SLI>
         ensures places { (class : ℕ) → slice_index_or result.places class nowhere ≡ nowhere }
         ensures touches { result.touches ≡ 0 }
@@ -42,6 +43,17 @@ impl<const SLI: u32> Heads<SLI> {
             places: [NO_PLACE; 641],
             touches: Touches::new(),
         }
+    }
+
+    /// Makes the list of 4 words begin at a place, or nowhere. The touches are counted from here on.
+    #[inline(always)]
+    pub(crate) fn begin_least(&mut self, at: u32)
+        ensures least { slice_index_or self.new.places 4 nowhere ≡ at }
+        ensures others { (class : ℕ) → class ≢ 4 → slice_index_or self.new.places class nowhere ≡ slice_index_or self.old.places class nowhere }
+        ensures touches { self.new.touches ≡ 0 }
+    {
+        self.places[4] = at;
+        self.touches = Touches::new();
     }
 
     /// The place where the list of a class begins. Each read of a head is here.

@@ -63,6 +63,43 @@ impl Words {
         Ok(Words { words, starts })
     }
 
+    /// A region of four words in memory for `n`, 4 to 2^24: each word is zero, and no block starts anywhere. It fails only for want of
+    /// memory.
+    ///
+    /// ```
+    /// let words = Words::open_for(alloc, 64)?;     // words.len() == 4
+    /// ```
+    pub fn open_for(alloc: Global, n: u32) -> Result<Words, NoMemory>
+        requires least { 4 ≤ n }
+        requires most { n ≤ 2 ^ 24 }
+        ensures words { IfOk result (λ region. region.words ≡ replicate 4 0) }
+        ensures starts { IfOk result (λ region. region.starts ≡ replicate 4 false) }
+        ensures touches { IfOk result (λ region. region.touches ≡ 0) }
+        ensures touched { IfOk result (λ region. region.touched ≡ []) }
+        ensures words_room { IfOk result (λ region. n ≤ region.extents.words.capacity) }
+        ensures starts_room { IfOk result (λ region. (n + 63) / 64 ≤ region.extents.starts.capacity) }
+    {
+        let words = Cells::open_for(alloc, n)?;
+        let starts = StartMap::open_for(alloc, n)?;
+        Ok(Words { words, starts })
+    }
+
+    /// Makes it a region of `n` words, where no block starts. Zeros come after the words that there are. The touches are counted from
+    /// here on.
+    pub fn lengthen(&mut self, n: u32)
+        requires least { length self.old.words ≤ n }
+        requires most { n ≤ 2 ^ 24 }
+        requires words_room { n ≤ self.old.extents.words.capacity }
+        requires starts_room { (n + 63) / 64 ≤ self.old.extents.starts.capacity }
+        ensures words { length self.new.words ≡ n }
+        ensures starts { self.new.starts ≡ replicate n false }
+        ensures touches { self.new.touches ≡ 0 }
+        ensures touched { self.new.touched ≡ [] }
+    {
+        self.words.lengthen(n);
+        self.starts.lengthen(n);
+    }
+
     /// How many words the region has, 4 to 2^24. No touch.
     ///
     /// ```

@@ -11,6 +11,7 @@ fn values_lie_as_in_c() {
     assert_eq!((size_of::<tlsf_heap>(), offset_of!(tlsf_heap, is_open)), (32, 8));
     assert_eq!((offset_of!(tlsf_heap, base), offset_of!(tlsf_heap, number)), (16, 24));
     assert_eq!((offset_of!(tlsf_heap, is_mixed), size_of::<tlsf_placed>()), (28, 16));
+    assert_eq!(offset_of!(tlsf_heap, align), 29);
     assert_eq!((size_of::<tlsf_near_heap>(), align_of::<tlsf_near_heap>()), (2880, 1));
     assert_eq!((size_of::<tlsf_post_end>(), size_of::<tlsf_heap_counts>()), (16, 16));
     assert_eq!((size_of::<tlsf_name>(), offset_of!(tlsf_name, serial)), (16, 8));

@@ -1,4 +1,5 @@
 pub mod Kept
+pub mod Alone
 pub mod Allocate
 pub mod Named
 pub mod Release

@@ -6,6 +6,7 @@ pub mod Groups
 pub mod Headers
 pub mod Zeros
 pub mod Links
+pub mod Alone
 pub mod Edit
 pub mod KeptLinks
 pub mod Bytes

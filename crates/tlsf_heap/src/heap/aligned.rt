@@ -22,16 +22,17 @@ use tlsf_class::most_words;
 /// The words by which the payload of a block at a place has to move on. It then begins `skew` words before a multiple of `step`
 /// words. They are none, or at least four, since no block is smaller.
 fn gap(at: u32, step: u32, skew: u32) -> u32
+    requires at { at ≤ 2 ^ 24 }
     requires some { 0 < step }
     requires most { step ≤ 2 ^ 24 }
     ensures { result ≡ gap_of at step skew }
 {
-    let step = u64::from(step);
-    let from = u64::from(at) + 3 + u64::from(skew);
-    if from % step == 0 {
+    // In 32 bits, since many processors of 32 have no division of 64. Whole steps of `skew` make no difference.
+    let past = (at + 3 + skew % step) % step;
+    if past == 0 {
         return 0;
     }
-    (4 + (step - (from + 4) % step) % step) as u32
+    4 + (5 * step - 4 - past) % step
 }
 
 // Calls for a block that begins at a place, or for a payload that does.

@@ -1,10 +1,12 @@
 ghost use Rattle.std.specs.Fn.{FnOnceTakesAt, FnOnceTakesAtMut};
-ghost use Rattle.std.specs.Prelude.{◌≡◌, ℕ, List, ◌+◌, ◌≤◌, length, OnOk};
-ghost use Rattle.tlsf_heap.specs.Calls.{allocated_words};
+ghost use Rattle.std.specs.Prelude.{◌≡◌, ℕ, List, ◌+◌, ◌-◌, ◌/◌, ◌≤◌, length, OnOk};
+ghost use Rattle.tlsf_heap.specs.Calls.{allocated_words, opened};
 ghost use Rattle.tlsf_heap.specs.Effects.{Releases, seen_by, Allocates, AsksLive, ChecksBlocks, Looks, Reads, Reports, Writes, AltersInPlace, InspectsInPlace};
 ghost use Rattle.tlsf_heap.specs.Footprint.{LeavesLive};
 ghost use Rattle.tlsf_heap.specs.Given.{payload_words_given};
+ghost use Rattle.tlsf_heap.specs.Image.{Shows};
 ghost use Rattle.tlsf_heap.specs.InPlace.{ArePayload, IsRefusedAsRead, payload_of};
+ghost use Rattle.tlsf_heap.specs.Lawful.{IsRegion};
 ghost use Rattle.tlsf_heap.specs.Laws.{IsLive};
 ghost use Rattle.tlsf_heap.specs.Touched.{allocate_touches, release_touches, read_touches, write_touches};
 ghost use Rattle.tlsf_heap.specs.ledger.Ledgers.{IsLedgered, KeepsLedger, NotesIt, NotesNothing, ChangesNoLedger};
@@ -57,6 +59,31 @@ impl<const SLI: u32, L: Ledger<SLI>> Ledgered<SLI, L> {
         ensures touched { result.touched ≡ heap.entry.touched }
     {
         Ledgered { heap, ledger }
+    }
+
+    /// Makes a heap that is new, and has four words, one of `words` words, for which `Heap::open_for` took the memory. From here on it has
+    /// that ledger, and its touches are counted.
+    ///
+    /// ```text
+    /// let mut counted = Ledgered::new(Heap::<4>::open_for(alloc, 0, 64, 0)?, counts);
+    /// counted.begin(64, counts);
+    /// ```
+    pub fn begin(&mut self, words: u32, ledger: L)
+    where
+        L: Drop,
+        requires new { self.old.heap ≡ opened self.old.heap.id 4 (self.old.heap.tick - 1) }
+        requires words { IsRegion SLI words }
+        requires words_room { words ≤ self.old.extents.words.capacity }
+        requires starts_room { (words + 63) / 64 ≤ self.old.extents.starts.capacity }
+        requires holds { L.holds SLI (opened self.old.heap.id words (self.old.heap.tick - 1)) ledger }
+        ensures heap { self.new.heap ≡ opened self.old.heap.id words (self.old.heap.tick - 1) }
+        ensures ledger { self.new.ledger ≡ ledger }
+        ensures is { IsLedgered (L.holds SLI) self.new }
+        ensures shows { Shows self.new.stored self.new.heap.blocks }
+        ensures touches { self.new.touches ≤ 10 }
+    {
+        self.heap.begin(words);
+        self.ledger = ledger;
     }
 
     /// The notes on the heap.

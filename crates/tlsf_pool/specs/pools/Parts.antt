@@ -101,6 +101,13 @@ pub record IsNew (sli id first : ℕ) (table : List Kind) (t : TableState) : Typ
   pub kinds : t.ledger.kinds ≡ table
   pub held : t.ledger.held ≡ replicate (length table) 0
 
+-- one more, a new one of that number, after the others
+pub record AddsNew (sli id first : ℕ) (table : List Kind) (old new : List TableState) : Type 0 where
+  pub pool : TableState
+  pub items : new ≡ old ++ pool ∷ []
+  pub is : IsNew sli id first table pool
+  pub tabled : IsTabled sli pool
+
 -- new heaps for these tables, in their order, with numbers one after the other
 abbrev pub AreNew : ℕ → ℕ → ℕ → List (List Kind) → List TableState → Type 0
 AreNew sli id first [] [] = ⊤

@@ -1,6 +1,8 @@
-ghost use Rattle.std.specs.Prelude.{◌≡◌, ◌-◌, ◌<◌, ◌≤◌, ◌^◌, ◌↔◌, Some, length, slice_index, replicate, is_some, IfOk, IsErrOf};
+ghost use Rattle.std.specs.Prelude.{◌≡◌, ◌+◌, ◌-◌, ◌/◌, ◌<◌, ◌≤◌, ◌^◌, ◌↔◌, [], Some, length, slice_index, replicate, is_some, IfOk, IfErr, OnOk, IsErrOf};
+ghost use Rattle.tlsf_class.specs.Classes.{IsLevel};
 ghost use Rattle.tlsf_heap.specs.Calls.{opened, last_tick};
 ghost use Rattle.tlsf_heap.specs.InPlace.{payload_of};
+ghost use Rattle.tlsf_heap.specs.Lawful.{IsRegion};
 ghost use Rattle.tlsf_pool.specs.laws.FixedSize as law;
 ghost use Rattle.tlsf_pool.specs.sizes.Limits.{AreRows};
 ghost use Rattle.tlsf_pool.specs.sizes.Rising.{Rises};
@@ -40,6 +42,40 @@ impl<const SLI: u32> Model for Table<SLI> {
 }
 
 impl<const SLI: u32> Table<SLI> {
+    // A table of these kinds of which none is held.
+    pub(crate) fn open(alloc: Global, kinds: &[Kind]) -> Result<Table<SLI>, OpenFault>
+        requires level { IsLevel SLI }
+        requires words { HasWords SLI kinds.now }
+        ensures kinds { IfOk result (λ table. table.kinds ≡ kinds.now) }
+        ensures held { IfOk result (λ table. table.held ≡ replicate (length kinds.now) 0) }
+        ensures err { IfErr result (λ why. why ≡ OpenFault.NoMemory) }
+    {
+        let Ok(rows) = Vec::from_slice(alloc, kinds) else {
+            return Err(OpenFault::NoMemory);
+        };
+        let Ok(held) = Vec::from_elem(alloc, 0, kinds.len()) else {
+            return Err(OpenFault::NoMemory);
+        };
+        Ok(Table {
+            kinds: rows,
+            size: fixed_size::<SLI>(kinds),
+            held,
+        })
+    }
+
+    // A table of no kind, for a heap of four words.
+    fn none(alloc: Global) -> Table<SLI>
+        requires { IsLevel SLI }
+        ensures kinds { result.kinds ≡ [] }
+        ensures held { result.held ≡ [] }
+    {
+        Table {
+            kinds: Vec::new(alloc),
+            size: 4,
+            held: Vec::new(alloc),
+        }
+    }
+
     // Whether some row is long enough.
     pub(crate) fn serves(&self, len: u32) -> bool
         ensures { result ≡ is_some (tables.row_of self.now.kinds len) }
@@ -149,6 +185,26 @@ impl<const SLI: u32> Ledger<SLI> for Table<SLI> {
 /// which one may be held, whatever its own length.
 pub type TablePool<const SLI: u32> = Ledgered<SLI, Table<SLI>>;
 
+// A pool of no kind, over the first four words of memory for `words`.
+#[inline(always)]
+pub(crate) fn open_least<const SLI: u32>(
+    alloc: Global,
+    id: u32,
+    words: u32,
+    first: u64,
+) -> Result<TablePool<SLI>, OpenFault>
+    requires { IsLevel SLI }
+    ensures heap { IfOk result (λ pool. pool.heap ≡ opened id 4 first) }
+    ensures region { OnOk result (IsRegion SLI words) }
+    ensures bad_size { IsErrOf result OpenFault.BadSize ↔ ¬ (IsRegion SLI words) }
+    ensures worn { IsRegion SLI words → (IsErrOf result OpenFault.Worn ↔ (first ≡ last_tick)) }
+    ensures words_room { IfOk result (λ pool. words ≤ pool.extents.words.capacity) }
+    ensures starts_room { IfOk result (λ pool. (words + 63) / 64 ≤ pool.extents.starts.capacity) }
+{
+    let heap = Heap::open_for(alloc, id, words, first)?;
+    Ok(Ledgered::new(heap, Table::none(alloc)))
+}
+
 /// The calls that a [`TablePool`] has beside those of each [`Ledgered`].
 pub trait TablePoolCalls<const SLI: u32>: Sized {
     // The view of it by contracts.
@@ -205,22 +261,10 @@ impl<const SLI: u32> TablePoolCalls<SLI> for TablePool<SLI> {
         let Some(words) = region_words::<SLI>(kinds) else {
             return Err(OpenFault::BadSize);
         };
-        let heap = Heap::open(alloc, id, words, first)?;
-        let Ok(rows) = Vec::from_slice(alloc, kinds) else {
-            return Err(OpenFault::NoMemory);
-        };
-        let Ok(held) = Vec::from_elem(alloc, 0, kinds.len()) else {
-            return Err(OpenFault::NoMemory);
-        };
-        let size = fixed_size::<SLI>(kinds);
-        Ok(Ledgered::new(
-            heap,
-            Table {
-                kinds: rows,
-                size,
-                held,
-            },
-        ))
+        let mut pool = open_least(alloc, id, words, first)?;
+        let table = Table::open(alloc, kinds)?;
+        pool.begin(words, table);
+        Ok(pool)
     }
 
     fn held(&self, row: usize) -> u32 {

@@ -10,6 +10,7 @@ ghost use Rattle.tlsf_pool.specs.declared.sizes.split.Split as cut;
 use crate::kind::Kind;
 use crate::sizes::region::region_words;
 use crate::sizes::rising::falling_row;
+use std::marker::Model;
 
 /// The most heaps that a split has.
 pub const MOST_HEAPS: usize = 8;
@@ -28,15 +29,50 @@ pub struct Split {
     pub words: u64,
 }
 
+/// A [`Split`] of at most 64 kinds in few bytes, since a search has 65 of them on the stack. Contracts see it as one.
+#[derive(Clone, Copy)]
+struct Cell {
+    words: u32,
+    heaps: u8,
+    lens: [u8; 8],
+}
+
+impl Model for Cell {
+    ghost use Rattle.tlsf_pool.specs.declared.sizes.split.Split.{Split};
+
+    ghost Value = { Split };
+
+    ghost view = { λ c. record { heaps = c.heaps; lens = c.lens; words = c.words } };
+
+    ghost inverse = { λ s. record { words = s.words; heaps = s.heaps; lens = s.lens } };
+}
+
+impl Cell {
+    /// The split that it is.
+    fn split(self) -> Split
+        ensures { result ≡ self }
+    {
+        let mut lens = [0; 8];
+        for at in 0..8 {
+            lens[at] = usize::from(self.lens[at]);
+        }
+        Split {
+            heaps: usize::from(self.heaps),
+            lens,
+            words: u64::from(self.words),
+        }
+    }
+}
+
 /// Of no kind.
-const NOTHING: Split = Split {
+const NOTHING: Cell = Cell {
     heaps: 0,
     lens: [0; 8],
     words: 0,
 };
 
 // The one of fewer words.
-fn cheaper(split: Option<Split>, other: Option<Split>) -> Option<Split>
+fn cheaper(split: Option<Cell>, other: Option<Cell>) -> Option<Cell>
     ensures { result ≡ found.cheaper split other }
 {
     match (split, other) {
@@ -51,22 +87,23 @@ fn cheaper(split: Option<Split>, other: Option<Split>) -> Option<Split>
 }
 
 // A split with a first heap more, for this many kinds, of that many words.
-fn with_first(len: usize, words: Option<u32>, rest: Option<Split>) -> Option<Split>
+fn with_first(len: usize, words: Option<u32>, rest: Option<Cell>) -> Option<Cell>
+    requires len { len ≤ 64 }
     requires words { IfSome words (λ n. n ≤ 2 ^ 24) }
     requires small { AreSmall 7 rest }
     ensures value { result ≡ found.with_first len words rest }
 {
     let words = words?;
     let mut split = rest?;
-    split.lens[split.heaps] = len;
+    split.lens[usize::from(split.heaps)] = len as u8;
     split.heaps += 1;
-    split.words += u64::from(words);
+    split.words += words;
     Some(split)
 }
 
 // The best split of these kinds into at most one heap more than `heaps`. It comes of the best ones into at most `heaps` of the
 // kinds that are left after one of them, after two and so on.
-fn best_of<const SLI: u32>(kinds: &[Kind], rests: &[Option<Split>], heaps: usize) -> Option<Split>
+fn best_of<const SLI: u32>(kinds: &[Kind], rests: &[Option<Cell>], heaps: usize) -> Option<Cell>
     requires rows { AreRows SLI kinds.now }
     requires some { 0 < length kinds.now }
     requires heaps { heaps ≤ 7 }
@@ -85,7 +122,7 @@ fn best_of<const SLI: u32>(kinds: &[Kind], rests: &[Option<Split>], heaps: usize
 }
 
 // Allows one heap more to the best split of the kinds that are left after each number of them.
-fn allow_one_more<const SLI: u32>(kinds: &[Kind], row: &mut [Option<Split>], heaps: usize)
+fn allow_one_more<const SLI: u32>(kinds: &[Kind], row: &mut [Option<Cell>], heaps: usize)
     requires rows { AreRows SLI kinds.now }
     requires heaps { heaps ≤ 7 }
     requires behind { length row.old ≡ length kinds.now + 1 }
@@ -93,12 +130,13 @@ fn allow_one_more<const SLI: u32>(kinds: &[Kind], row: &mut [Option<Split>], hea
     ensures { AreBest SLI (heaps + 1) kinds.now row.new }
 {
     for at in 0..kinds.len() {
-        row[at] = best_of::<SLI>(&kinds[at..], &row[at + 1..], heaps);
+        let (_, rests) = row.split_at(at + 1);
+        row[at] = best_of::<SLI>(&kinds[at..], rests, heaps);
     }
 }
 
 // Begins with the best splits into no heap: there is one of no kinds alone.
-fn begin<const SLI: u32>(kinds: &[Kind], row: &mut [Option<Split>])
+fn begin<const SLI: u32>(kinds: &[Kind], row: &mut [Option<Cell>])
     requires { length row.old ≡ length kinds.now + 1 }
     ensures { AreBest SLI 0 kinds.now row.new }
 {
@@ -109,7 +147,7 @@ fn begin<const SLI: u32>(kinds: &[Kind], row: &mut [Option<Split>])
 }
 
 // The best split of the kinds into at most this many heaps, found in a row of one cell more than there are kinds.
-fn best_in<const SLI: u32>(kinds: &[Kind], row: &mut [Option<Split>], most: usize) -> Option<Split>
+fn best_in<const SLI: u32>(kinds: &[Kind], row: &mut [Option<Cell>], most: usize) -> Option<Cell>
     requires rows { AreRows SLI kinds.now }
     requires most { most ≤ 8 }
     requires behind { length row.old ≡ length kinds.now + 1 }
@@ -140,7 +178,10 @@ pub fn cheapest_split<const SLI: u32>(kinds: &[Kind], most: usize) -> Option<Spl
     ensures none { result ≡ None → HasNoCut SLI most kinds.now }
 {
     let mut cells = [None; MOST_SPLIT + 1];
-    best_in::<SLI>(kinds, &mut cells[..kinds.len() + 1], most)
+    match best_in::<SLI>(kinds, &mut cells[..kinds.len() + 1], most) {
+        Some(cell) => Some(cell.split()),
+        None => None,
+    }
 }
 
 /// The split that [`cheapest_split`] finds for a table whose rows rise in `len`; None also where they don't, as [`falling_row`]

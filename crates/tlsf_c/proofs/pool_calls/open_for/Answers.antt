@@ -7,5 +7,5 @@ use Rattle.tlsf_c.proofs.pool_calls.open_for.Goals as goal
 
 pub returns-clause-bad_size : goal.returns-clause-bad_size
 returns-clause-bad_size c =
-    let same : c.split_at.result.0.now ≡ kinds_of c.args.rows.now = c.split_at.ensures.front ∙ c.kinds_in-kinds.ensures.table in
+    let same : c.split_at.result.0.now ≡ kinds_of c.args.rows.now = c.split_at.ensures.front ∙ c.put_kinds.ensures.table in
     subst (λ (kinds : List Kind). IsErrOf c.open.result BadSize ↔ HasNoHeaps c.args.level 8 kinds) same c.open.ensures.bad_size

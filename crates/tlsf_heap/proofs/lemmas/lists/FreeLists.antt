@@ -1,5 +1,6 @@
 -- The list of the free blocks of a class, as free blocks come and go.
-use Rattle.tlsf_heap.proofs.Common.{map-append, ◌≡◌, ◌≢◌, ℕ, zero, suc, ◌<◌, ◌⊎◌, inl, inr, Bool, true, false, cond, eqb, not, List, [], ◌∷◌, ◌++◌, length, get_or, filter, map, refl, sym, ap, ◌∙◌, subst, arith, Contains, IsPermutation, AllByRecursion, eqb-true, eq-eqb, false≢true, filter-append, Contains-append_left, Contains-append_right, Contains-append_cases, IsPermutation-refl, IsPermutation-sym, IsPermutation-cons, IsPermutation-trans, IsPermutation-middle, Contains-permutation, class_of, Free, without_place, IsUnlisted, SameLists, list_in, FreePlace, of_class, AreFalling, IsFreeList, AreFreeLists, ShowsLists, IsStored, Inside}
+use Rattle.tlsf_heap.proofs.Common.{map-append, ◌≡◌, ◌≢◌, ℕ, zero, suc, ◌<◌, ◌⊎◌, inl, inr, Bool, true, false, cond, eqb, not, List, [], ◌∷◌, ◌++◌, length, get_or, filter, map, refl, sym, ap, ◌∙◌, subst, arith, Contains, IsPermutation, AllByRecursion, eqb-true, eq-eqb, false≢true, filter-append, Contains-append_left, Contains-append_right, Contains-append_cases, IsPermutation-refl, IsPermutation-sym, IsPermutation-cons, IsPermutation-trans, IsPermutation-middle, Contains-permutation, length_permutation, class_of, Free, without_place, IsUnlisted, SameLists, list_in, FreePlace, of_class, AreFalling, IsFreeList, AreFreeLists, ShowsLists, IsStored, Inside}
+use Rattle.std.proofs.lemmas.List.{nil_from_length}
 use Rattle.tlsf_heap.proofs.lemmas.blocks.Find.{not_true}
 use Rattle.tlsf_heap.proofs.lemmas.blocks.Lawful.{all_append, all_left, all_right}
 use Rattle.tlsf_heap.proofs.lemmas.lists.Permutations.{Parted, parted, taken_out}
@@ -239,6 +240,14 @@ listed_first sli words first class old new empty is_class came others =
     let nothing : AreListed [] old = λ other. record { order = []; same = IsPermutation-refl []; falling = tt; are = empty other } in
     let e : FreePlace = record { class = class; at = 0; stamp = first } in
     subst (λ (n : ℕ). AreListed (record { class = n; at = 0; stamp = first } ∷ []) new) is_class (given e [] [] old new others (λ place c. absurd (omega (arith, c.1))) came nothing)
+
+-- and it is in no list of another class
+pub listed_alone : (sli words first : ℕ) (lists : ℕ → List ℕ) → AreFreeLists sli (Free words first ∷ []) lists → (other : ℕ) → other ≢ class_of sli words → lists other ≡ []
+listed_alone sli words first lists are other n =
+    let list = are other in
+    let none = of_class-other other (record { class = class_of sli words; at = 0; stamp = first }) [] [] n in
+    let short = sym (length_permutation _ _ list.same) ∙ ap (length {A = FreePlace}) none in
+    list.are ∙ ap (map (λ (place : FreePlace). place.at)) (nil_from_length list.order short)
 
 -- ---- what a heap shows of its lists
 

@@ -1,7 +1,6 @@
 -- New heaps for the parts of a table, one after the other.
-use Rattle.tlsf_pool.proofs.Common.{◌≡◌, ℕ, zero, suc, ◌+◌, ◌-◌, ◌<◌, ◌≤◌, List, [], ◌∷◌, ◌++◌, length, replicate, get_or, take, drop, min, refl, sym, ap, ◌∙◌, subst, arith, append_assoc, add-zero, length-append, length-drop, AllByRecursion, HeapState, opened, fixed_kinds_words, Kind, Rises, IsLeast, IsPart, HasWords, cut_by, parts_of, Split, IsTabled, TableState, AreNew, ArePools, IsNew, no_part}
+use Rattle.tlsf_pool.proofs.Common.{◌≡◌, ℕ, zero, suc, ◌+◌, ◌-◌, ◌<◌, ◌≤◌, List, [], ◌∷◌, ◌++◌, length, replicate, get_or, take, drop, min, refl, sym, ap, ◌∙◌, subst, arith, append_assoc, add-zero, length-append, length-drop, AllByRecursion, HeapState, opened, fixed_kinds_words, Kind, IsLeast, IsPart, HasWords, cut_by, parts_of, Split, IsTabled, TableState, AreNew, ArePools, IsNew, no_part}
 use Rattle.tlsf_heap.specs.Memory.{Extent}
-use Rattle.tlsf_pool.proofs.lemmas.sizes.Risings.{parts_rise}
 use Rattle.tlsf_heap.proofs.lemmas.blocks.Lawful.{all_append}
 
 module _ (sli first : ℕ) where
@@ -51,15 +50,11 @@ pub record OpenedSoFar (sli id first : ℕ) (all : List (List Kind)) (left : ℕ
   pub tables : AllByRecursion (IsTabled sli) parts
   pub few : length rest ≤ 64
   pub cut : AllByRecursion (IsPart sli) (cut_by left lens rest)
-  pub rise : AllByRecursion Rises (cut_by left lens rest)
 
 module _ (sli id first : ℕ) (all : List (List Kind)) (lens : List ℕ) (rest : List Kind) (parts : List TableState) (k : ℕ) (so_far : OpenedSoFar sli id first all (suc k) lens rest parts) where
   -- the next part, as its length is taken
   pub next_part : IsPart sli (take (min (get_or lens k 0) (length rest)) rest)
   next_part = subst (IsPart sli) (sym (take_least (get_or lens k 0) rest)) so_far.cut.0
-
-  pub next_rises : Rises (take (min (get_or lens k 0) (length rest)) rest)
-  next_rises = subst Rises (sym (take_least (get_or lens k 0) rest)) so_far.rise.0
 
   pub opened_next : (t : TableState) → IsNew sli (id + length parts) first (take (min (get_or lens k 0) (length rest)) rest) t → IsTabled sli t
       → OpenedSoFar sli id first all k lens (drop (min (get_or lens k 0) (length rest)) rest) (parts ++ t ∷ [])
@@ -75,7 +70,6 @@ module _ (sli id first : ℕ) (all : List (List Kind)) (lens : List ℕ) (rest :
         tables = all_append (IsTabled sli) parts (t ∷ []) so_far.tables (is, tt);
         few = fewer;
         cut = so_far.cut.1;
-        rise = so_far.rise.1;
       } in
       subst (λ (left : List Kind). OpenedSoFar sli id first all k lens left (parts ++ t ∷ [])) (sym (drop_least len rest)) whole_part
 
@@ -87,9 +81,6 @@ module _ (sli id first : ℕ) (all : List (List Kind)) (lens : List ℕ) (rest :
 
   pub part_words : HasWords sli (take len rest)
   part_words = (subst (λ (n : ℕ). IsPart sli (take n rest)) (sym least) (next_part sli id first all lens rest parts (heaps - 1 - at) one_left)).1
-
-  pub part_rises : Rises (take len rest)
-  part_rises = subst (λ (n : ℕ). Rises (take n rest)) (sym least) (next_rises sli id first all lens rest parts (heaps - 1 - at) one_left)
 
   pub opened_step : (t : TableState) (left : List Kind) (now : List TableState) → length parts ≡ at → t.heap ≡ opened (id + at) (fixed_kinds_words sli (take len rest)) first → t.ledger.kinds ≡ take len rest → t.ledger.held ≡ replicate (length (take len rest)) 0
       → IsTabled sli t → left ≡ drop len rest → now ≡ parts ++ t ∷ [] → OpenedSoFar sli id first all (heaps - (at + 1)) lens left now
@@ -112,10 +103,6 @@ new_pools sli id first kinds split parts extent is are tables = record {
   numbers = numbered sli first id (parts_of split kinds) parts are;
   few = omega (arith, as_many sli first id (parts_of split kinds) parts are, is.sought);
 }
-
--- the parts of a table that rises do
-pub cut_rises : (sli heaps : ℕ) (kinds : List Kind) (split : Split) → IsLeast sli heaps kinds split → Rises kinds → AllByRecursion Rises (parts_of split kinds)
-cut_rises sli heaps kinds split is rises = parts_rise (parts_of split kinds) (subst Rises (sym is.cut.0) rises)
 
 pub length_more : (parts : List TableState) (t : TableState) (n : ℕ) → length parts ≡ n → length (parts ++ t ∷ []) ≡ n + 1
 length_more parts t n many = omega (arith, length-append parts (t ∷ []), many)

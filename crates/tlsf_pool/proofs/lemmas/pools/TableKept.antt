@@ -1,6 +1,8 @@
 -- A table stays one through its calls.
-use Rattle.tlsf_pool.proofs.Common.{◌≡◌, ℕ, ◌+◌, ◌≤◌, eqb, List, ◌∷◌, length, replicate, get_or, set, Option, Some, None, Ok, refl, sym, ap, ◌∙◌, subst, AllByRecursion, IsLevel, HeapState, bytes_of, Site, Outcome, Call, Allocate, Release, Write, allocated_words, released, written, named, released_at, refused, is_worn, opened, IsLawful, Name, Foreign, Worn, live_count, answered_fixed, fixed_kinds_words, fixed_size, longest_of, IsModest, AreOfKinds, HasClass, count_in, used, Kind, IsTable, TableExtents, TableRows, held_of, lengths_in, table_allocated}
+use Rattle.tlsf_pool.proofs.Common.{◌≡◌, ℕ, ◌+◌, ◌-◌, ◌*◌, ◌≤◌, max, eqb, List, [], ◌∷◌, length, replicate, get_or, set, Option, Some, None, Ok, refl, sym, ap, ◌∙◌, subst, AllByRecursion, arith, IsLevel, HasWords, HeapState, bytes_of, Site, Outcome, Call, Allocate, Release, Write, allocated_words, released, written, named, released_at, refused, is_worn, opened, IsLawful, Name, Foreign, Worn, live_count, answered_fixed, fixed_kinds_words, fixed_size, longest_of, IsModest, AreOfKinds, HasClass, count_in, used, Kind, IsTable, TableRows, held_of, lengths_in, table_allocated}
 use Rattle.tlsf_heap.specs.InPlace.{payload_of, bytes_at}
+use Rattle.tlsf_heap.proofs.lemmas.blocks.Lawful.{opened_lawful}
+use Rattle.tlsf_heap.proofs.lemmas.calls.Alone.{opened_again}
 use Rattle.tlsf_heap.proofs.lemmas.calls.Outcomes.{by_test, by_allocated_words, by_written, named_site, gives_words, takes, writes}
 use Rattle.tlsf_pool.proofs.lemmas.laws.FixedCalls.{kept}
 use Rattle.tlsf_pool.proofs.lemmas.laws.FixedSize.{new_fixed}
@@ -33,19 +35,38 @@ written_lengths h name at bytes = by_written (λ o. SameTotals (lengths_in h.blo
 
 -- ---- a new table
 
-pub new_table : (sli id first : ℕ) (kinds : List Kind) (held : List ℕ) (extents : TableExtents) (h : HeapState) → IsLevel sli → AllByRecursion (HasClass sli) kinds → length kinds ≤ 64 → held ≡ replicate (length kinds) 0
-    → IsLawful h → h ≡ opened id (fixed_kinds_words sli kinds) first → IsTable sli h (record { kinds = kinds; held = held; extents = extents })
-new_table sli id first kinds held extents h level classes few none lawful is =
-    subst (λ (x : HeapState). IsLawful x → IsTable sli x (record { kinds = kinds; held = held; extents = extents })) (sym is) (λ lawful. record {
+pub new_table : (sli id first : ℕ) (kinds : List Kind) (h : HeapState) (t : TableRows) → IsLevel sli → AllByRecursion (HasClass sli) kinds → length kinds ≤ 64 → t.kinds ≡ kinds → t.held ≡ replicate (length kinds) 0
+    → IsLawful h → h ≡ opened id (fixed_kinds_words sli kinds) first → IsTable sli h t
+new_table sli id first kinds h t level classes few own none lawful is =
+    let whole = is ∙ ap (λ (ks : List Kind). opened id (fixed_kinds_words sli ks) first) (sym own) in
+    subst (λ (x : HeapState). IsLawful x → IsTable sli x t) (sym whole) (λ lawful. record {
       level = level;
       lawful = lawful;
       words = refl;
-      classes = classes;
-      few = few;
-      held = none ∙ sym (held_none kinds);
-      fit = fit_none kinds;
-      fixed = new_fixed (fixed_size sli kinds) id (fixed_kinds_words sli kinds) first;
+      classes = subst (λ (ks : List Kind). AllByRecursion (HasClass sli) ks) (sym own) classes;
+      few = omega (arith, few, ap (λ (ks : List Kind). length ks) own);
+      held = none ∙ ap (λ (ks : List Kind). replicate (length ks) 0) (sym own) ∙ sym (held_none t.kinds);
+      fit = fit_none t.kinds;
+      fixed = new_fixed (fixed_size sli t.kinds) id (fixed_kinds_words sli t.kinds) first;
     }) lawful
+
+-- where no block is held, a table has the words of the least region
+least_words : (n : ℕ) → 4 ≡ max 4 (0 * n)
+least_words n = omega arith
+
+-- a table without kinds, of a heap of four words
+pub least_table : (sli id first : ℕ) (h : HeapState) (t : TableRows) → IsLevel sli → t.kinds ≡ [] → t.held ≡ [] → IsLawful h → h ≡ opened id 4 first → IsTable sli h t
+least_table sli id first h t level own none lawful is =
+    let four : 4 ≡ fixed_kinds_words sli [] = least_words (fixed_size sli []) in
+    new_table sli id first [] h t level tt (omega arith) own none lawful (is ∙ ap (λ (n : ℕ). opened id n first) four)
+
+-- a new table, once a heap of four words has the words for its kinds
+pub begun_table : (sli id first words : ℕ) (kinds : List Kind) (h : HeapState) (t : TableRows) → IsLevel sli → HasWords sli kinds × (words ≡ fixed_kinds_words sli kinds) → length kinds ≤ 64 → t.kinds ≡ kinds → t.held ≡ replicate (length kinds) 0
+    → h ≡ opened id 4 first → IsTable sli (opened h.id words (h.tick - 1)) t
+begun_table sli id first words kinds h t level has few own held is =
+    let whole = opened_again h id 4 words first is ∙ ap (λ (n : ℕ). opened id n first) has.1 in
+    let four : 4 ≤ words = omega (arith, has.1) in
+    new_table sli id first kinds (opened h.id words (h.tick - 1)) t level has.0.0 few own held (opened_lawful h.id words (h.tick - 1) four) whole
 
 module _ (sli : ℕ) (h : HeapState) (t : TableRows) (is : IsTable sli h t) where
   -- after a call that leaves lengths which fit the table

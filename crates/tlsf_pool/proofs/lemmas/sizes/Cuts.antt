@@ -208,16 +208,14 @@ small_more heaps more (Some split) upto small = record { few = omega (arith, sma
 
 pub rest_best : (sli heaps at : ℕ) (kinds : List Kind) (row : List (Option Split)) → length row ≡ length kinds + 1 → at < length kinds
     → ((k : ℕ) → at ≤ k → k < length row → IsBest sli heaps (drop k kinds) (get_or row k None) × AreSmall heaps (get_or row k None))
-    → AreBest sli heaps (drop 1 (take (length kinds - at) (drop at kinds))) (take (length row - (at + 1)) (drop (at + 1) row))
+    → AreBest sli heaps (drop 1 (take (length kinds - at) (drop at kinds))) (drop (at + 1) row)
 rest_best sli heaps at kinds row long inside before =
     let all : take (length kinds - at) (drop at kinds) ≡ drop at kinds = take_all (length kinds - at) (drop at kinds) (omega (arith, length-drop at kinds)) in
-    let cells : take (length row - (at + 1)) (drop (at + 1) row) ≡ drop (at + 1) row = take_all (length row - (at + 1)) (drop (at + 1) row) (omega (arith, length-drop (at + 1) row)) in
-    subst (λ (ks : List Kind). AreBest sli heaps (drop 1 ks) (take (length row - (at + 1)) (drop (at + 1) row))) (sym all)
-    (subst (λ (r : List (Option Split)). AreBest sli heaps (drop 1 (drop at kinds)) r) (sym cells)
+    subst (λ (ks : List Kind). AreBest sli heaps (drop 1 ks) (drop (at + 1) row)) (sym all)
     (λ k below.
     let place : at + (1 + k) ≡ at + 1 + k = omega arith in
     let left : drop k (drop 1 (drop at kinds)) ≡ drop (at + 1 + k) kinds = drop-drop k 1 (drop at kinds) ∙ (drop-drop (1 + k) at kinds ∙ ap (λ (n : ℕ). drop n kinds) place) in
-    rw (left, get_or-drop (at + 1) row k None) (before (at + 1 + k) (omega arith) (omega (arith, length-drop (at + 1) row, below)))))
+    rw (left, get_or-drop (at + 1) row k None) (before (at + 1 + k) (omega arith) (omega (arith, length-drop (at + 1) row, below))))
 
 pub row_done : (sli heaps at : ℕ) (kinds : List Kind) (row : List (Option Split)) → length row ≡ length kinds + 1 → length kinds ≤ at
     → ((k : ℕ) → k < at → IsBest sli (heaps + 1) (drop k kinds) (get_or row k None) × AreSmall (heaps + 1) (get_or row k None))

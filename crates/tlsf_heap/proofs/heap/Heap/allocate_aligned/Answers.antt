@@ -1,8 +1,9 @@
-use Rattle.tlsf_heap.proofs.Common.{◌≡◌, ℕ, List, times, Fill, words_in_use, ◌+◌, ◌≤◌, ◌<◌, max, [], refl, arith, sym, ap, ◌∙◌, subst, suc, false≢true, aligned_words, HeapState, want, Outcome, last_tick, fits, IsLawful, Shown, lying, with_payload, Name, IsOthersWord, IsLiveWord, LeavesLive, rules, Err, NoFit}
+use Rattle.tlsf_heap.proofs.Common.{◌≡◌, ℕ, List, times, Fill, words_in_use, ◌+◌, ◌≤◌, ◌<◌, max, [], refl, arith, sym, ap, ◌∙◌, subst, suc, false≢true, aligned_words, HeapState, want, Outcome, last_tick, fits, gap_of, IsLawful, Shown, lying, with_payload, Name, IsOthersWord, IsLiveWord, LeavesLive, rules, Err, NoFit}
 use Rattle.tlsf_heap.specs.Aligned.{words_aligned}
 use Rattle.tlsf_heap.specs.Unset.{GivesUnset}
 use Rattle.tlsf_class.proofs.TwoLevels.{most_words_any}
-use Rattle.tlsf_heap.proofs.lemmas.calls.AllocateAligned.{IsAligned, has_live, has_room, none_fits, aligned_past, first_moves, first_moved, gives_name, gives_payload, gives_others}
+use Rattle.tlsf_heap.proofs.lemmas.calls.AllocateAligned.{IsAligned, stood, has_live, has_room, none_fits, aligned_past, first_moves, first_moved, gives_name, gives_payload, gives_others}
+use Rattle.tlsf_heap.proofs.lemmas.blocks.Order.{inside}
 use Rattle.tlsf_heap.proofs.lemmas.blocks.Sites.{fits_nothing}
 use Rattle.tlsf_heap.proofs.lemmas.laws.WordsInUse.{words_set}
 use Rattle.tlsf_heap.proofs.lemmas.calls.Filled.{unfilled}
@@ -85,6 +86,26 @@ returns-in-Err-clause-allocates g c =
       touches = search rules;
       rise = search rules;
       leaves = λ k live. c.allocate_unset_words.ensures.allocates.leaves k live;
+    }
+
+-- ---- the block lies in the region
+
+pub gap-gap-requires : goal.gap-gap-requires
+gap-gap-requires g c =
+    let h = c.args.self.now.heap in
+    let a = c.allocate_unset_words.new.self.heap in
+    let first = c.in-Ok.first in
+    let view = ap (λ (s : Shown). s.heap) c.self.view_is in
+    let lawful = subst IsLawful view c.self.invariant.lawful in
+    let asked_lawful = c.allocate_unset_words.ensures.frame.keeps.lawful in
+    let left : h.tick + 3 < last_tick = omega (arith, ap (λ (s : HeapState). s.tick) view, c.if-self.false) in
+    let moves = first_moves g.row.SLI c.self.invariant.level h c.want-words.result c.max-step.result c.args.skew lawful left (omega (arith, c.max-step.ensures)) (omega (arith, c.want-words.ensures)) a first (gap_of first.at c.max-step.result c.args.skew) (unfilled g.row.SLI _ 0 c.in-Ok.ensures.frame.keeps.level (omega arith) c.in-Ok.ensures.frame.keeps.was_lawful c.in-Ok.ensures.frame.keeps.lawful c.in-Ok.ensures.allocates refl) c.in-Ok.ensures.allocates.answer_is asked_lawful refl in
+    let own = stood a first (gap_of first.at c.max-step.result c.args.skew + c.want-words.result) asked_lawful moves.has in
+    let within = inside a asked_lawful own.0 own.1.stands.within in
+    record {
+      at = omega (arith, within, own.1.stands.place, moves.words, ap (λ (s : HeapState). s.words) view, c.self.invariant.small, most_words_any g.row.SLI);
+      some = omega (arith, c.max-step.ensures);
+      most = omega (arith, c.most_words.ensures, c.if-step-most_words.false, most_words_any g.row.SLI);
     }
 
 -- ---- the block is moved on

@@ -1,11 +1,9 @@
-use Rattle.tlsf_heap.proofs.Common.{rules, [], refl, sym, ap, ◌∙◌, subst, arith, class_of, Outcome, opened, list_in, Shown, InGroups}
-use Rattle.tlsf_heap.proofs.lemmas.blocks.Lawful.{opened_lawful}
+use Rattle.tlsf_heap.proofs.Common.{rules, refl, sym, ap, ◌∙◌, subst, arith, Outcome, opened, Shown, InGroups}
+use Rattle.tlsf_heap.proofs.lemmas.calls.Alone.{stored_alone}
 use Rattle.tlsf_heap.proofs.lemmas.calls.Kept.{keeps_stored}
 use Rattle.tlsf_heap.proofs.lemmas.calls.Leaves.{seen_live}
 use Rattle.tlsf_heap.proofs.lemmas.calls.Reset.{reset_worn, reset_done}
-use Rattle.tlsf_heap.proofs.lemmas.lists.FreeLists.{listed_first}
 use Rattle.tlsf_heap.proofs.lemmas.words.Groups.{first_words}
-use Rattle.tlsf_heap.specs.WordsInUse.{words_used}
 use Rattle.tlsf_heap.proofs.lemmas.calls.Frames.{found_none, settles_found}
 use Rattle.tlsf_heap.proofs.heap.Heap.reset.Goals as goal
 
@@ -31,20 +29,7 @@ pub reset-requires : goal.reset-requires
 reset-requires g c = (omega arith, (c.self.invariant.level, c.self.invariant.small))
 
 pub invariant_of-self : goal.invariant_of-self
-invariant_of-self g c =
-    let e = c.reset.ensures in
-    let words = c.self.inside.region.words in
-    record {
-      lawful = rw (e.edits.words, e.blocks) (opened_lawful c.self.inside.id words c.self.inside.tick e.least);
-      shows = e.edits.shows;
-      linked = e.edits.linked;
-      bits = e.edits.bits;
-      level = c.self.invariant.level;
-      small = omega (arith, e.edits.words, c.self.invariant.small);
-      listed = rw e.blocks (listed_first g.row.SLI words c.self.inside.tick (class_of g.row.SLI words) (λ class. []) (list_in c.reset.new.self.lists) (λ class. refl) refl e.list e.others);
-      in_use = sym (ap words_used e.blocks);
-      most_in_use = omega arith;
-    }
+invariant_of-self g c = stored_alone g.row.SLI c.self.inside.region.words c.self.inside.tick _ c.self.invariant.level c.self.invariant.small c.reset.ensures.alone refl refl
 
 pub returns-clause-resets : goal.returns-clause-resets
 returns-clause-resets g c =
@@ -56,7 +41,7 @@ returns-clause-resets g c =
     let touches = ap (λ (s : Shown). s.touches) c.self.view_is in
     record {
       answer_is = sym (ap (λ (o : Outcome (Unit {0})). o.answer) done);
-      heap = rw (e.edits.words, e.blocks) left;
+      heap = rw (e.alone.words, e.alone.blocks) left;
       touches = omega (arith, e.edits.touches, touches, ap (λ (s : Shown). s.heap.words) c.self.view_is);
       rise = omega (arith, e.edits.rise, touches);
       leaves = seen_live g.row.SLI c.self.inside c.self.view_is _ (λ k live. e.touched k (omega (arith, live.2.behind)));

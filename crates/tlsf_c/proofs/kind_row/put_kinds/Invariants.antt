@@ -1,6 +1,6 @@
 use Rattle.std.proofs.Common.{◌≡◌, length, take}
 use Rattle.tlsf_c.specs.PoolHandles.{kinds_of}
-use Rattle.tlsf_c.proofs.kind_row.kinds_in.Given as goal
+use Rattle.tlsf_c.proofs.kind_row.put_kinds.Given as goal
 
 abbrev pub invariant-loop-k : goal.invariant-loop-k
 invariant-loop-k l = record {
