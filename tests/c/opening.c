@@ -1,5 +1,6 @@
 /* The stack that a call takes which opens or closes something: painted before, and read after it. A heap's own fields are made where they
  * stay, so no copy of them lies on it. */
+#define _POSIX_C_SOURCE 200809L /* for a thread on a stack of its own */
 #include "peachanchor.h"
 
 #include <pthread.h>
