@@ -122,7 +122,7 @@ static void change(uint32_t kind, uint32_t k, uint32_t len) {
         moved(k, answer, &name);
         break;
     case 5:
-        answer = tlsf_resize_place(&heap, name.at, tlsf_rounded(len), &name.at);
+        answer = tlsf_resize_place(&heap, name.at, (len + 7) / 16 * 16 + 8, &name.at);
         moved(k, answer == TLSF_OK ? tlsf_name_at(&heap, blocks[k].p + 8 * ((int64_t)name.at - blocks[k].name.at), &name) : answer, &name);
         break;
     default:
@@ -186,6 +186,7 @@ static void leave_out(const char *file) {
 
 int main(int argc, char **argv) {
     if (argc < 2 || !(trace = fopen(argv[1], "w"))) return 1;
+    heap.align = 16; /* so blocks lie alike on each processor */
     if (tlsf_open_in(&heap, 4, 1, memory, tlsf_bytes(4, 1201)) || tlsf_lane_open(&post, &take, 1)) return 1;
     if (tlsf_queue_open(&queue, 1, 1) || tlsf_poster_open(&queue, &poster)) return 1;
     if (argc == 2) make_calls();
