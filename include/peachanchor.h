@@ -422,9 +422,9 @@ TLSF_ANSWER TLSF_CALL uint32_t tlsf_words_for(uint32_t level, uint32_t blocks, s
  * TLSF_OK, with no call. Refused besides: TLSF_IS_CLOSED, TLSF_WORN. */
 TLSF_CALL uint32_t tlsf_free(struct tlsf_heap *heap, void *p) TLSF_NOEXCEPT;
 
-/* `len` bytes, aligned to the heap's `align`, whatever lies there; null where it is refused. The call is tlsf_allocate_payload, and
- * with a TLSF_ALIGN of 8 tlsf_allocate_place. Where `align` isn't TLSF_ALIGN, or TLSF_ALIGN is 16 and a block by name has had an odd number of words, it is tlsf_allocate_place. What comes
- * may be misaligned then, where such a block lies: it goes back, and a second call aligns. */
+/* `len` bytes, aligned to the heap's `align`, whatever lies there; null where it is refused. The call is tlsf_allocate_payload. With a
+ * TLSF_ALIGN of 8 it is tlsf_allocate_place, and so it is where `align` isn't TLSF_ALIGN, or a block by name has had an odd number of
+ * words. What comes may be misaligned then, where such a block lies: it goes back, and a second call aligns. */
 TLSF_ANSWER TLSF_CALL void *tlsf_malloc(struct tlsf_heap *heap, size_t len) TLSF_NOEXCEPT TLSF_OF_BYTES(2);
 
 /* As tlsf_malloc of `count * each` bytes, all zero. The call is tlsf_allocate, which fills. Where tlsf_malloc's is tlsf_allocate_place,
@@ -454,7 +454,8 @@ TLSF_CALL size_t tlsf_usable_size(struct tlsf_heap *heap, const void *p) TLSF_NO
 TLSF_ANSWER TLSF_CALL uint32_t tlsf_name_at(struct tlsf_heap *heap, const void *p, struct tlsf_name *name) TLSF_NOEXCEPT;
 
 /* Allocates a block of at least `len` bytes by name and by pointer: its name goes to `name`, the address of its payload to
- * `payload`. It is aligned to `align`, any power of two, and as tlsf_malloc's. It is all zero, or with TLSF_UNFILLED in `flags` what lies there.
+ * `payload`. It is aligned to `align`, any power of two, and as tlsf_malloc's. It is all zero, or with TLSF_UNFILLED in `flags` what lies
+ * there.
  * The call is that of tlsf_aligned_alloc; it is filled here.
  * Refused: TLSF_BAD_SIZE for any other `align`; TLSF_IS_CLOSED, TLSF_NO_FIT, TLSF_WORN. */
 TLSF_ANSWER TLSF_CALL uint32_t tlsf_allocate_at(struct tlsf_heap *heap, size_t len, size_t align, uint32_t flags, struct tlsf_name *name,

@@ -10,7 +10,8 @@
  *     tlsf_cache_close(&cache);                      // before its heap
  *
  * It keeps 8 blocks at most of each of 33 sizes: of 8, 24, 40 .. 520 bytes, in steps of 16. Longer blocks go to the heap, and so do
- * those for which there is no slot. A heap whose `align` is 32 or 64 has blocks of each second or fourth size alone. A block that is kept is live for the heap, so each promise of the heap holds as it did. All is
+ * those for which there is no slot. A heap whose `align` is 32 or 64 has blocks of each second or fourth size alone.
+ * A block that is kept is live for the heap, so each promise of the heap holds as it did. All is
  * inline, over calls of peachanchor.h alone. It takes no memory, and writes to no payload but to fill it for tlsf_cache_calloc.
  *
  * WHAT IT COSTS
