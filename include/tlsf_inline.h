@@ -150,9 +150,9 @@ TLSF_BODY void tlsf_fetch_named(const struct tlsf_heap *heap, struct tlsf_name n
 #define TLSF_THIN TLSF_BODY __attribute__((always_inline))
 #endif
 
-/* A place for `len` bytes at a multiple of `align` bytes, which is 16 to TLSF_LONGEST. */
+/* A place for `len` bytes at a multiple of `align` bytes, a power of two from 16 to TLSF_LONGEST. */
 TLSF_BODY struct tlsf_placed tlsf_align_place(struct tlsf_heap *heap, size_t len, size_t align) TLSF_NOEXCEPT {
-    return tlsf_allocate_aligned(heap, len, (uint32_t)(align / 8), (uint32_t)((uintptr_t)heap->base / 8 % (align / 8)));
+    return tlsf_allocate_aligned(heap, len, (uint32_t)(align / 8), (uint32_t)((uintptr_t)heap->base & (align - 1)) / 8);
 }
 
 /* Whether each block that tlsf_rounded bytes were asked for begins where a pointer is aligned to TLSF_ALIGN, and to no more. As a number:
@@ -171,15 +171,16 @@ TLSF_BODY size_t tlsf_rounded_to(size_t align, size_t len) TLSF_NOEXCEPT {
 
 /* The bytes that a pointer to a block has which was asked for `len`. */
 TLSF_BODY size_t tlsf_own_rounded(const struct tlsf_heap *heap, size_t len) TLSF_NOEXCEPT {
-    return tlsf_is_plain(heap) ? tlsf_rounded(len) : tlsf_rounded_to(tlsf_align_of(heap), len);
+    const size_t own = tlsf_align_of(heap);
+    return own == TLSF_ALIGN ? tlsf_rounded(len) : tlsf_rounded_to(own, len);
 }
 
 /* A place for `len` bytes, TLSF_LONGEST at most, in a heap that isn't plain. A misaligned block goes back for one that is aligned. */
 TLSF_RARE struct tlsf_placed tlsf_mixed_place(struct tlsf_heap *heap, size_t len, size_t align) TLSF_NOEXCEPT {
-    const size_t own = tlsf_align_of(heap), rounded = tlsf_rounded_to(own, len);
+    const size_t own = tlsf_align_of(heap), rounded = tlsf_own_rounded(heap, len);
     if (align > own) return tlsf_align_place(heap, rounded, align);
     const struct tlsf_placed it = tlsf_allocate_place(heap, rounded);
-    if (it.answer != TLSF_OK || (uintptr_t)(heap->base + it.at + 3) % own == 0) return it;
+    if (it.answer != TLSF_OK || ((uintptr_t)(heap->base + it.at + 3) & (own - 1)) == 0) return it;
     TLSF_RELEASE_SEEN(heap, it.at);
     return tlsf_align_place(heap, rounded, own);
 }
@@ -226,10 +227,41 @@ TLSF_CALL void *tlsf_aligned_alloc(struct tlsf_heap *heap, size_t align, size_t 
     return tlsf_asked_at(heap, it.answer, it.at, len);
 }
 
-TLSF_RARE void *tlsf_malloc_mixed(struct tlsf_heap *heap, size_t len) TLSF_NOEXCEPT {
+/* The same address, which a call keeps for what comes after the next. In the library the compiler doesn't know that it is the same: it
+ * would save it in front of the test before, and fetch it back. */
+TLSF_BODY struct tlsf_heap *tlsf_kept(struct tlsf_heap *heap) TLSF_NOEXCEPT {
+#if defined(TLSF_POINTERS) && defined(TLSF_GNU)
+    __asm__("" : "+r"(heap));
+#endif
+    return heap;
+}
+
+/* tlsf_malloc in a heap that has an alignment of its own. */
+TLSF_RARE void *tlsf_malloc_own(struct tlsf_heap *heap, size_t len) TLSF_NOEXCEPT {
     if (len > TLSF_LONGEST) return TLSF_NULL;
     const struct tlsf_placed it = tlsf_mixed_place(heap, len, 1);
     return tlsf_asked_at(heap, it.answer, it.at, len);
+}
+
+/* Gives a misaligned block of tlsf_malloc's back for one that is aligned. The block has the length, so that the call keeps none. */
+TLSF_RARE void *tlsf_malloc_again(struct tlsf_heap *heap, const void *p) TLSF_NOEXCEPT {
+    struct tlsf_block_info it = {0, 0, 0, 0, 0};
+    if (tlsf_block_at(heap, tlsf_place_of(heap, p), &it) != TLSF_OK) return TLSF_NULL;
+    TLSF_RELEASE_SEEN(heap, it.at);
+    const struct tlsf_placed aligned = tlsf_align_place(heap, it.len, TLSF_ALIGN);
+    return aligned.answer == TLSF_OK ? heap->base + aligned.at + 3 : TLSF_NULL;
+}
+
+/* tlsf_malloc in a heap that isn't plain. */
+TLSF_RARE void *tlsf_malloc_mixed(struct tlsf_heap *heap, size_t len) TLSF_NOEXCEPT {
+    if (TLSF_ALIGN == 8 || tlsf_align_of(heap) != TLSF_ALIGN) return tlsf_malloc_own(heap, len);
+    struct tlsf_heap *const kept = tlsf_kept(heap);
+    const size_t byte = tlsf_allocate_payload(heap, len);
+    if (byte == 0) return TLSF_NULL;
+    void *p = (unsigned char *)kept->base + byte;
+    if ((uintptr_t)p % TLSF_ALIGN != 0) p = tlsf_malloc_again(kept, p);
+    if (p != TLSF_NULL) TLSF_ASKED(p, len, tlsf_rounded(len));
+    return p;
 }
 
 /* No payload begins at a region's first byte, so 0 says that there is none. */
@@ -240,9 +272,10 @@ TLSF_CALL void *tlsf_malloc(struct tlsf_heap *heap, size_t len) TLSF_NOEXCEPT {
         const struct tlsf_placed it = tlsf_allocate_place(heap, tlsf_rounded(len));
         return tlsf_asked_at(heap, it.answer, it.at, len);
     }
+    struct tlsf_heap *const kept = tlsf_kept(heap);
     const size_t byte = tlsf_allocate_payload(heap, len);
     if (byte == 0) return TLSF_NULL;
-    void *const p = (unsigned char *)heap->base + byte;
+    void *const p = (unsigned char *)kept->base + byte;
     TLSF_ASKED(p, len, tlsf_rounded(len));
     return p;
 }
@@ -305,7 +338,7 @@ TLSF_RARE void *tlsf_realloc_mixed(struct tlsf_heap *heap, void *p, size_t len) 
     struct tlsf_block_info it = {0, 0, 0, 0, 0};
     const uint32_t at = tlsf_place_of(heap, p);
     const size_t own = tlsf_align_of(heap);
-    size_t rounded = tlsf_rounded_to(own, len);
+    size_t rounded = tlsf_own_rounded(heap, len);
     if (own == 8) return tlsf_resized_at(heap, at, rounded, len); /* each block is so aligned, wherever it goes */
     if (TLSF_IS_DAMAGED(heap, "tlsf_resize_place", at)) return TLSF_NULL;
     if (tlsf_block_at(heap, at, &it) != TLSF_OK || it.is_live == 0) return tlsf_resized_at(heap, at, rounded, len); /* refused */
