@@ -525,6 +525,7 @@ static void loses_none(int kind) {
     had = words_in_use();
     void *const p = kind == 0   ? tlsf_malloc(heap, 376)
                     : kind == 1 ? tlsf_calloc(heap, 47, 8)
+                    : kind == 3 ? tlsf_aligned_alloc(heap, 16, 376)
                                 : tlsf_realloc(heap, heap->base + old.at + 3, 376);
     wants("it is given", p != NULL && (uintptr_t)p % 16 == 0, 1);
     untold("what no call follows");
@@ -587,6 +588,6 @@ int main(int argc, char **argv) {
         each_call(is_mixed);
         for (int by = PLAIN; by < WAYS; by++) each_damage((enum way)by, is_mixed);
     }
-    for (int kind = 0; kind < 3; kind++) loses_none(kind);
+    for (int kind = 0; kind < 4; kind++) loses_none(kind);
     return !overruns(turns);
 }
