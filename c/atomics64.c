@@ -1,12 +1,12 @@
-/* Atomic steps of 64 bits on processors of 32 bits that have none: Cortex-M and riscv32. Lanes, queues and tlsf_next_number make them, as calls
- * that compilers know by these names. Heaps, arenas of offsets and pools make none. On other processors nothing is here.
+/* Atomic steps of 64 bits on processors of 32 bits that have none: Cortex-M and riscv32. Lanes, queues and tlsf_next_number make them, as
+ * calls that compilers know by these names. Heaps, arenas of offsets and pools make none. On other processors nothing is here.
  *
  * For one core. Each step masks interrupts for some ten instructions, so code that interrupts may be masked by makes them: on Cortex-M
- * privileged code, on riscv32 machine mode. dist/tlsf.S has these functions, weak, so that a program's own, or a board's, are taken in their
- * place.
+ * privileged code, on riscv32 machine mode. dist/tlsf.S has these functions, weak, so that a program's own, or a board's, are taken in
+ * their place.
  *
- * Two cores that share a lane, a queue or that count want a lock of the board's. A program gives two macros for that, and compiles this file
- * besides dist/tlsf.S. The first one is for a declaration, and may keep in it what the second one hands back:
+ * Two cores that share a lane, a queue or that count want a lock of the board's. A program gives two macros for that, and compiles this
+ * file besides dist/tlsf.S. The first one is for a declaration, and may keep in it what the second one hands back:
  *
  *     #define TLSF_ATOMIC_BEGIN const uint32_t had = spin_lock_blocking(my_lock)
  *     #define TLSF_ATOMIC_END spin_unlock(my_lock, had)

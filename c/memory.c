@@ -1,6 +1,6 @@
-/* How C's library gets memory: from malloc, or from the caller while it opens something there; how it fills and copies; and numbers of heaps. It is
- * compiled by the toolchain's clang, which has no headers, so it declares what it calls. tests/library_test compiles it with peachanchor.h
- * in front, which agrees.
+/* How C's library gets memory: from malloc, or from the caller while it opens something there; how it fills and copies; and numbers of
+ * heaps. It is compiled by the toolchain's clang, which has no headers, so it declares what it calls. tests/library_test compiles it with
+ * peachanchor.h in front, which agrees.
  *
  * The proved code takes memory only to open, and gives it back only to close. Each piece lies 8 bytes behind a multiple of 16,
  * so that payloads at even places are aligned to 16. A heap of more alignment has its words where its payloads are as aligned. The

@@ -1,4 +1,5 @@
-/* The calls of peachanchor.h that are C over proved calls, those by pointer and some more: here the header's own bodies are the library's. */
+/* The calls of peachanchor.h that are C over proved calls, those by pointer and some more: here the header's own bodies are the library's.
+ * */
 #define TLSF_POINTERS
 #include "../include/peachanchor.h"
 

@@ -20,9 +20,9 @@
  *   for the `damaged` of a check. It changes nothing but what tlsf_counts tells; only one that is made of several proved calls
  *   may take ticks besides. The compiler warns where an answer is ignored, except for calls that close, free, release or drain.
  * Time: only reports, tlsf_check, tlsf_pools_check, tlsf_reset, tlsf_release_all, tlsf_drain, tlsf_queue_drain, tlsf_put_all and
- *   tlsf_take_all, opening, tlsf_pools_words and tlsf_pools_bytes, closing a queue, what finds a part of pools, eight at most, or the row of a length, 64 at
- *   most, and what fills or copies payload run a loop. Only opening takes memory, and only closing gives it back. No call waits, locks
- *   or makes a system call, except as malloc and free do.
+ *   tlsf_take_all, opening, tlsf_pools_words and tlsf_pools_bytes, closing a queue, what finds a part of pools, eight at most, or the row
+ *   of a length, 64 at most, and what fills or copies payload run a loop. Only opening takes memory, and only closing gives it back. No
+ *   call waits, locks or makes a system call, except as malloc and free do.
  *
  * WHAT THE CALLER OWES. Nothing checks these rules, and the proofs rest on them.
  *   1. A handle is closed before it is opened: all its bytes are zero, or it was set to TLSF_CLOSED. After that only calls
@@ -198,8 +198,8 @@ enum tlsf_answer {
 #define TLSF_ALIGN 16
 #endif
 
-/* What the proved calls read and write lies where it lies on 64 bits, on processors of 32 bits too: there a pointer in a handle has the first
- * half of 8 bytes, and what comes behind it begins at the next 8. */
+/* What the proved calls read and write lies where it lies on 64 bits, on processors of 32 bits too: there a pointer in a handle has the
+ * first half of 8 bytes, and what comes behind it begins at the next 8. */
 #ifdef __cplusplus
 #define TLSF_AT_8 alignas(8)
 #else

@@ -1,5 +1,5 @@
-// peachanchor.h for C++17 and later: heaps, ends of lanes and queues, arenas of offsets and pools that close themselves; blocks that release
-// themselves; and the heap under the containers of std, as an allocator. tlsf_resource.hpp has it as a std::pmr::memory_resource,
+// peachanchor.h for C++17 and later: heaps, ends of lanes and queues, arenas of offsets and pools that close themselves; blocks that
+// release themselves; and the heap under the containers of std, as an allocator. tlsf_resource.hpp has it as a std::pmr::memory_resource,
 // and tlsf_home.hpp objects whose std::unique_ptr may die in any thread: each needs headers that cost a compiler more than all this.
 //
 // Header-only; libpeachanchor.a is all that is linked. What the caller owes is said in peachanchor.h. Constructors, heap::for_blocks and

@@ -1,5 +1,6 @@
 /* A heap as it stands, written as a trace: calls that make the same heap out of a new one. `tlsf map < TRACE` draws it, and what
- * else reads a trace takes it too: a line `a 0 65535 5200` at its end asks whether 5,200 bytes would find room. Include peachanchor.h first.
+ * else reads a trace takes it too: a line `a 0 65535 5200` at its end asks whether 5,200 bytes would find room. Include peachanchor.h
+ * first.
  *
  *   #include "tlsf_dump.h"
  *   if (tlsf_dump(&heap, 4, to) != TLSF_OK) ..

@@ -381,8 +381,8 @@ TLSF_CALL TLSF_BY_VALUE void *tlsf_payload(struct tlsf_heap *heap, struct tlsf_n
 
 /* --- Pools by pointer: a part has the base and the number that a heap's handle has ------------------------------------------ */
 
-/* The part whose region begins the fewest bytes in front of `p`: if `p` lies in a region it is that one's. One that begins behind `p` counts
- * as nearly all addresses in front of it, and no region is so long. Its address goes to `own`, which tells the place. */
+/* The part whose region begins the fewest bytes in front of `p`: if `p` lies in a region it is that one's. One that begins behind `p`
+ * counts as nearly all addresses in front of it, and no region is so long. Its address goes to `own`, which tells the place. */
 TLSF_BODY uint32_t tlsf_pools_part_of(struct tlsf_pools *pools, const void *p, struct tlsf_heap *own) TLSF_NOEXCEPT {
     uint32_t part = 0, found = 0, number = 0;
     uint64_t *base = TLSF_NULL;

@@ -88,8 +88,9 @@ TLSF_ANSWER static inline uint32_t tlsf_locked_open_in(struct tlsf_locked *locke
 /* Closes the heap with all blocks, and ends the mutex. Calls are refused as TLSF_IS_CLOSED then. Refused: TLSF_IS_CLOSED. */
 static inline uint32_t tlsf_locked_close(struct tlsf_locked *locked) TLSF_NOEXCEPT;
 
-/* As the calls of peachanchor.h by pointer. An accepted request is a grant, and a free that is TLSF_OK is a return. Of tlsf_locked_realloc a
- * null pointer asks for a grant, and a `len` of 0 for a return. The free of a null pointer is TLSF_OK, takes no lock and isn't counted. */
+/* As the calls of peachanchor.h by pointer. An accepted request is a grant, and a free that is TLSF_OK is a return. Of tlsf_locked_realloc
+ * a null pointer asks for a grant, and a `len` of 0 for a return. The free of a null pointer is TLSF_OK. It takes no lock and isn't
+ * counted. */
 TLSF_ANSWER static inline void *tlsf_locked_malloc(struct tlsf_locked *locked, size_t len) TLSF_NOEXCEPT;
 TLSF_ANSWER static inline void *tlsf_locked_calloc(struct tlsf_locked *locked, size_t count, size_t each) TLSF_NOEXCEPT;
 TLSF_ANSWER static inline void *tlsf_locked_realloc(struct tlsf_locked *locked, void *p, size_t len) TLSF_NOEXCEPT;

@@ -1,4 +1,5 @@
-/* What the linker calls the calls where TLSF_PREFIX is defined before peachanchor.h, which includes this; made by `tools/calls.py --prefix`. */
+/* What the linker calls the calls where TLSF_PREFIX is defined before peachanchor.h, which includes this. Made by
+ * `tools/calls.py --prefix`. */
 #ifndef TLSF_PREFIX_H
 #define TLSF_PREFIX_H
 

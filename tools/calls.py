@@ -61,7 +61,8 @@ by_value! {{
 {by_value}
 }}
 """
-PREFIX = """/* What the linker calls the calls where TLSF_PREFIX is defined before peachanchor.h, which includes this; made by `tools/calls.py --prefix`. */
+PREFIX = """/* What the linker calls the calls where TLSF_PREFIX is defined before peachanchor.h, which includes this. Made by
+ * `tools/calls.py --prefix`. */
 #ifndef TLSF_PREFIX_H
 #define TLSF_PREFIX_H
 

@@ -1,6 +1,6 @@
-/* A Cortex-M4 with an interrupt handler that frees: the main loop fills buffers and hands each to a device, whose handler (SysTick here) takes
- * the bytes and frees the buffer. The heap is the main loop's alone, so the handler puts the block's name into a lane. That takes a bounded
- * number of instructions, waits for nothing and may come between any two instructions of a call. The main loop drains the lane.
+/* A Cortex-M4 with an interrupt handler that frees: the main loop fills buffers and hands each to a device, whose handler (SysTick here)
+ * takes the bytes and frees the buffer. The heap is the main loop's alone, so the handler puts the block's name into a lane. That takes a
+ * bounded number of instructions, waits for nothing and may come between any two instructions of a call. The main loop drains the lane.
  *
  * It prints over the serial port of qemu's machine mps2-an386, and ends qemu by semihosting. A board has other addresses for the port. */
 #include <peachanchor.h>

@@ -1,6 +1,6 @@
-/* An audio graph: a control thread makes nodes, each with a delay line, and a real-time thread plays them. Each has a heap of its own: nodes
- * and commands lie in the first, meters in the second. Names go over four lanes, there and home, and whoever holds a block reads and writes
- * it in place. No call waits. With TLSF_TSAN before the header, or -DTLSF_TSAN, ThreadSanitizer tells of no race here. */
+/* An audio graph: a control thread makes nodes, each with a delay line, and a real-time thread plays them. Each has a heap of its own:
+ * nodes and commands lie in the first, meters in the second. Names go over four lanes, there and home, and whoever holds a block reads and
+ * writes it in place. No call waits. With TLSF_TSAN before the header, or -DTLSF_TSAN, ThreadSanitizer tells of no race here. */
 #include <peachanchor.h>
 
 #include <pthread.h>

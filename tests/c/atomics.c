@@ -1,5 +1,5 @@
-/* The atomic steps of c/atomics64.c, over a lock as a board with two cores gives it: what each answers and leaves, by chance, beside C's own
- * operators; and threads whose steps get in between each other's. ATOMICS [TURNS] */
+/* The atomic steps of c/atomics64.c, over a lock as a board with two cores gives it: what each answers and leaves, by chance, beside C's
+ * own operators; and threads whose steps get in between each other's. ATOMICS [TURNS] */
 #define _GNU_SOURCE /* for pthread_barrier_t */
 #include "chance.h"
 

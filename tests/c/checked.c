@@ -368,8 +368,8 @@ static void around(unsigned char *before, void *block, void *next) {
     refused("tlsf_resize_place", told.answer, TLSF_STALE, tlsf_place_of(heap, before + 8));
 }
 
-/* With the links of the great free block damaged: the requests that it would serve are refused, and no others. In a mixed heap a calloc, and a realloc
- * that moves, ask as malloc does. */
+/* With the links of the great free block damaged: the requests that it would serve are refused, and no others. In a mixed heap a calloc,
+ * and a realloc that moves, ask as malloc does. */
 static void requests(void *block, void *hole, bool is_mixed) {
     struct tlsf_name name = {0, 0, 0}, own = name_of(block);
     struct tlsf_block_info it = {0, 0, 0, 0, 0}, rest = {0, 0, 0, 0, 0};
@@ -510,8 +510,8 @@ static struct tlsf_name named(size_t len) {
     return name;
 }
 
-/* In a mixed heap a request is served from a free block, whose rest comes before the first of another list. That one is damaged, and no call
- * follows its header. So nothing is told, and no block is lost where it is given back and aligned, or has moved. */
+/* In a mixed heap a request is served from a free block, whose rest comes before the first of another list. That one is damaged, and no
+ * call follows its header. So nothing is told, and no block is lost where it is given back and aligned, or has moved. */
 static void loses_none(int kind) {
     uint32_t next = 0, damaged = 0, had = 0;
     open_heap(4, PLAIN, true);

@@ -2,8 +2,9 @@
  * the handles that it uses. And whoever walks the stack in a handler, as a crash reporter does, finds the way through the library.
  *
  * The program makes calls by chance on a heap, a lane, a queue, an arena of offsets and pools, and knows what each of its blocks
- * holds. So does the handler, with blocks of its own. It looks at the handles too. SIGNALS step CALLS: each call is interrupted at each instruction, and the handler makes a call. SIGNALS
- * timer COUNT: a timer interrupts COUNT times. SIGNALS walk CALLS: at each instruction the handler walks the stack. */
+ * holds. So does the handler, with blocks of its own. It looks at the handles too. SIGNALS step CALLS: each call is interrupted at each
+ * instruction, and the handler makes a call. SIGNALS timer COUNT: a timer interrupts COUNT times. SIGNALS walk CALLS: at each instruction
+ * the handler walks the stack. */
 #define _GNU_SOURCE
 #include "peachanchor.h"
 #include "stepping.h"
