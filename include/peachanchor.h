@@ -50,7 +50,7 @@
 
 /* The version of this header, as of the program and of the packages. */
 #define TLSF_VERSION_MAJOR 0
-#define TLSF_VERSION_MINOR 28
+#define TLSF_VERSION_MINOR 29
 #define TLSF_VERSION_PATCH 0
 
 #include <stdbool.h>

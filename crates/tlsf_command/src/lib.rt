@@ -51,4 +51,4 @@ pub use commands::run;
 pub use fault_report::FaultReport;
 
 /// The version of the program, which `tlsf --version` writes.
-pub const VERSION: &str = "0.28.0";
+pub const VERSION: &str = "0.29.0";
