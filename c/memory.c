@@ -101,6 +101,13 @@ void free(void *at);
 #define OWN_ALIGN 16
 #endif
 
+/* The bytes of the heads of level 5's lists, for which a heap has room; in a library of level 4 alone those of level 4. */
+#ifdef TLSF_ONE_LEVEL
+enum { HEADS = 4 * 273 };
+#else
+enum { HEADS = 4 * 641 };
+#endif
+
 #ifdef TLSF_NO_TLS
 #define OF_THREAD
 #else
@@ -108,22 +115,22 @@ void free(void *at);
 #endif
 
 enum {
-    MARK = 8,         /* bytes in front of a piece */
-    HEADER = 24,      /* and in front of a payload */
-    MIXED = 28,       /* the byte of a handle for whether blocks may begin where a pointer isn't aligned, */
-    ALIGN = 29,       /* and the one for what pointers are aligned to; 0 stands for OWN_ALIGN. */
-    LEAST_ALIGN = 8,  /* It is a power of two from here */
-    MOST_ALIGN = 64,  /* to here. */
-    PIECE_ALIGN = 16, /* What follows a mark lies 8 bytes behind a multiple of this, so pointers are aligned to it */
-    HEAP = 2760,      /* bytes of a heap's own fields: beside its words and the bits that say where blocks begin */
-    ARENA = 2760,     /* and of an arena's */
-    LINE = 64,        /* the handle of a near heap lies at a multiple of a cache line, */
-    HANDLE = 32,      /* has so many bytes, */
-    NEAR = 2816,      /* and begins so many, for it and for the heap's own fields */
-    PIECES_FIRST = 2, /* the words and the bits come in front of the own fields */
-    LINES = 128,      /* two cache lines: a processor may fetch both where it needs one */
-    END = 48,         /* bytes of each end of a lane or a queue */
-    LANE = 384,       /* bytes of a lane beside its names and its ends */
+    MARK = 8,           /* bytes in front of a piece */
+    HEADER = 24,        /* and in front of a payload */
+    MIXED = 28,         /* the byte of a handle for whether blocks may begin where a pointer isn't aligned, */
+    ALIGN = 29,         /* and the one for what pointers are aligned to; 0 stands for OWN_ALIGN. */
+    LEAST_ALIGN = 8,    /* It is a power of two from here */
+    MOST_ALIGN = 64,    /* to here. */
+    PIECE_ALIGN = 16,   /* What follows a mark lies 8 bytes behind a multiple of this, so pointers are aligned to it */
+    HEAP = 196 + HEADS, /* bytes of a heap's own fields: beside its words and the bits that say where blocks begin */
+    ARENA = HEAP,       /* and of an arena's */
+    LINE = 64,          /* the handle of a near heap lies at a multiple of a cache line, */
+    HANDLE = 32,        /* has so many bytes, */
+    NEAR = 2816,        /* and begins so many, for it and for the heap's own fields */
+    PIECES_FIRST = 2,   /* the words and the bits come in front of the own fields */
+    LINES = 128,        /* two cache lines: a processor may fetch both where it needs one */
+    END = 48,           /* bytes of each end of a lane or a queue */
+    LANE = 384,         /* bytes of a lane beside its names and its ends */
     LANE_NAME = 24,
     QUEUE = 88,   /* bytes of a queue beside its places and its ends */
     PLACES = 384, /* of its places beside 8 for each */
@@ -133,7 +140,7 @@ enum {
     MOST_NAMES = 1024,    /* of a lane or a queue, which has no more posters */
     MOST_BYTES = 1 << 28, /* no heap takes as many */
     NUMBERS = 8,          /* that pools take, and so are given at once */
-    POOL = 2792,          /* bytes of a heap of pools, with its table, and */
+    POOL = 228 + HEADS,   /* bytes of a heap of pools, with its table, and */
     PIECES = 80,          /* of what its four pieces have at most beside what lies in them: marks, and the ends of bits */
     ROW = 12,             /* and of each row */
     WORN = 2,             /* four numbers of enum tlsf_answer (tools/check answers) */
@@ -256,7 +263,7 @@ void *tlsf_memory_move(void *to, const void *from, size_t n) { return memmove(to
 
 /* --- What is opened in memory of the caller's ---------------------------------------------------------------------- */
 
-#ifdef TLSF_ONE_LEVEL /* of a library of level 4 alone */
+#ifdef TLSF_ONE_LEVEL
 static size_t most_words(uint32_t level) { return level == 4 ? 1u << 20 : 0; }
 #else
 static size_t most_words(uint32_t level) { return level == 4 ? 1u << 20 : level == 5 ? 1u << 24 : 0; }

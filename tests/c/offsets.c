@@ -23,7 +23,9 @@ static void refusals(void) {
     wants("no unit", tlsf_offsets_open(&offsets, 4, 1, 0, 64), TLSF_BAD_SIZE);
     wants("three units", tlsf_offsets_open(&offsets, 4, 1, 256, 3), TLSF_BAD_SIZE);
     wants("too many units", tlsf_offsets_open(&offsets, 4, 1, 256, (1 << 20) + 1), TLSF_BAD_SIZE);
+#ifndef TLSF_LEVEL_4
     wants("too many of level 5", tlsf_offsets_open(&offsets, 5, 1, 256, (1 << 24) + 1), TLSF_BAD_SIZE);
+#endif
     wants("open", tlsf_offsets_open(&offsets, 4, 1, 256, 64), TLSF_OK);
     wants("open twice", tlsf_offsets_open(&offsets, 9, 1, 0, 0), TLSF_IN_USE);
     wants("more than there is", tlsf_offsets_allocate(&offsets, 64 * 256 + 1, &span), TLSF_NO_FIT);

@@ -385,12 +385,35 @@ def faults(text, of_c, of_memory):
 OF_LEVEL_5 = re.compile(r'^(define internal [^@\n]*@"[^"\n]*<=5>[^"\n]*"\([^\n]*\{\n)(?:[^}\n].*\n|\n)*\}$', re.M)
 
 
+# The bytes of the heads of level 5's lists, for which each heap has room, and how many fewer level 4's take. Numbers from HEADS on to PAST are
+# the bytes of these and of what has them: a heap, its box, an arena, a heap with its table. They stand in these forms, and in no other.
+HEADS, FEWER, PAST = 4 * 641, 4 * (641 - 273), 2880
+NUMBER = re.compile(r"(?<![\w.!#])\d{4}(?![\w.])")
+OF_BYTES = re.compile(
+    rf"  (?:{VALUE} = )?(?:alloca \[\d+ x i8\], align [48]|getelementptr i8, ptr {VALUE}, i64 \d+|mul i64 {VALUE}, \d+|icmp eq i64 {VALUE}, \d+|"
+    rf"store i64 \d+, ptr {VALUE}, align 8|call void @llvm\.mem(?:set|cpy|move)\.[\w.]+\([^()]*, i64 \d+, i1 false\)|"
+    rf'call [^@\n]*@"std_heap::GlobalAllocator::(?:de)?allocate"\((?:ptr {VALUE}, )+i64 \d+, i64 8\))'
+)
+
+
+def with_few_heads(line):
+    """A line of a module in which a heap has room for the heads of level 4 alone."""
+    long = [it[0] for it in NUMBER.finditer(line) if HEADS <= int(it[0]) < PAST]
+    if long and not OF_BYTES.fullmatch(line):
+        raise Failed(f"no size of what has heads: {line.strip()[:160]}")
+    return NUMBER.sub(lambda it: str(int(it[0]) - FEWER) if it[0] in long else it[0], line)
+
+
 def of_one_level(text):
-    """A module in which no way leads into a function for level 5. A heap's level is in its handle, and only calls that open write it there."""
+    """A module in which no way leads into a function for level 5, and a heap has no room for that. A heap's level is in its handle, and only
+    calls that open write it there."""
     text, count = OF_LEVEL_5.subn(r"\1start:\n  unreachable\n}", text)
     if not count:
         raise Failed("no function is for level 5 alone")
-    return text
+    few = "\n".join(map(with_few_heads, text.split("\n")))
+    if few == text:
+        raise Failed("nothing has room for the heads of level 5")
+    return few
 
 
 def narrow(text, known, of_c, lacks=None, poison=False, one_level=False):
