@@ -15,7 +15,8 @@ Then each line of the result has to be of a form that means the same on 32 bits.
 What isn't known is refused, and so is a module that lacks one of these edits.
 
 With `one_level` each call takes level 5 for one that isn't there, and refuses it.
-Then nothing leads to the functions for that level, and LLVM leaves them out.
+Then nothing leads to the functions for that level, and LLVM leaves them out. What
+has room for the heads of level 5's lists has room for those of level 4.
 """
 import re
 
