@@ -423,20 +423,21 @@ TLSF_ANSWER TLSF_CALL uint32_t tlsf_words_for(uint32_t level, uint32_t blocks, s
 TLSF_CALL uint32_t tlsf_free(struct tlsf_heap *heap, void *p) TLSF_NOEXCEPT;
 
 /* `len` bytes, aligned to the heap's `align`, whatever lies there; null where it is refused. The call is tlsf_allocate_payload. With a
- * TLSF_ALIGN of 8 it is tlsf_allocate_place, and so it is where `align` isn't TLSF_ALIGN, or a block by name has had an odd number of
- * words. What comes may be misaligned then, where such a block lies: it goes back, and a second call aligns. */
+ * TLSF_ALIGN of 8, or where `align` isn't TLSF_ALIGN, it is tlsf_allocate_place. In a mixed heap what comes may be misaligned: then it goes
+ * back, and a last call aligns. A heap is mixed where `align` isn't TLSF_ALIGN. Where that is 16, one is mixed too once a block by name has
+ * had an odd number of words. */
 TLSF_ANSWER TLSF_CALL void *tlsf_malloc(struct tlsf_heap *heap, size_t len) TLSF_NOEXCEPT TLSF_OF_BYTES(2);
 
-/* As tlsf_malloc of `count * each` bytes, all zero. The call is tlsf_allocate, which fills. Where tlsf_malloc's is tlsf_allocate_place,
- * what that gives is filled here. */
+/* As tlsf_malloc of `count * each` bytes, all zero. The call is tlsf_allocate, which fills. In a mixed heap tlsf_malloc's calls give the
+ * bytes, which are filled here. */
 TLSF_ANSWER TLSF_CALL void *tlsf_calloc(struct tlsf_heap *heap, size_t count, size_t each) TLSF_NOEXCEPT TLSF_OF_BYTES(2, 3);
 
 /* Gives what `p` points to `len` bytes, aligned as tlsf_malloc's: what it had stays up to the smaller length. Where it moves, the old
  * block is freed. A null pointer is tlsf_malloc's; with a `len` of 0 it is freed, and the answer is null, also where the free is
  * refused. Where it is refused the answer is null, and the block is as before. A block by name that stays where it is keeps its
  * alignment.
- * Where tlsf_malloc's call is tlsf_allocate_place and `align` isn't 8, tlsf_block_at shows first whether this block stays. If not,
- * tlsf_malloc's calls give a block, it is copied here, and tlsf_free's call frees the old one. */
+ * In a mixed heap whose `align` isn't 8, tlsf_block_at shows first whether this block stays. If not, tlsf_malloc's calls give a block, it
+ * is copied here, and tlsf_free's call frees the old one. */
 TLSF_ANSWER TLSF_CALL void *tlsf_realloc(struct tlsf_heap *heap, void *p, size_t len) TLSF_NOEXCEPT TLSF_OF_BYTES(3);
 
 /* As tlsf_malloc, aligned to `align` too: any power of two, else it is refused. Above the heap's own a free block is looked for that has
