@@ -172,7 +172,7 @@ TLSF_BODY size_t tlsf_rounded_to(size_t align, size_t len) TLSF_NOEXCEPT {
 /* The bytes that a pointer to a block has which was asked for `len`. */
 TLSF_BODY size_t tlsf_own_rounded(const struct tlsf_heap *heap, size_t len) TLSF_NOEXCEPT {
     const size_t own = tlsf_align_of(heap);
-    return own == TLSF_ALIGN ? tlsf_rounded(len) : tlsf_rounded_to(own, len);
+    return sizeof heap != 4 && own == TLSF_ALIGN ? tlsf_rounded(len) : tlsf_rounded_to(own, len);
 }
 
 /* A place for `len` bytes, TLSF_LONGEST at most, in a heap that isn't plain. A misaligned block goes back for one that is aligned. */
@@ -236,7 +236,7 @@ TLSF_BODY struct tlsf_heap *tlsf_kept(struct tlsf_heap *heap) TLSF_NOEXCEPT {
     return heap;
 }
 
-/* tlsf_malloc in a heap that has an alignment of its own. */
+/* tlsf_malloc in a heap that has an alignment of its own. With 32 bits, where flash is short, it serves each heap that isn't plain. */
 TLSF_RARE void *tlsf_malloc_own(struct tlsf_heap *heap, size_t len) TLSF_NOEXCEPT {
     if (len > TLSF_LONGEST) return TLSF_NULL;
     const struct tlsf_placed it = tlsf_mixed_place(heap, len, 1);
@@ -254,7 +254,7 @@ TLSF_RARE void *tlsf_malloc_again(struct tlsf_heap *heap, const void *p) TLSF_NO
 
 /* tlsf_malloc in a heap that isn't plain. */
 TLSF_RARE void *tlsf_malloc_mixed(struct tlsf_heap *heap, size_t len) TLSF_NOEXCEPT {
-    if (TLSF_ALIGN == 8 || tlsf_align_of(heap) != TLSF_ALIGN) return tlsf_malloc_own(heap, len);
+    if (sizeof heap == 4 || tlsf_align_of(heap) != TLSF_ALIGN) return tlsf_malloc_own(heap, len);
     struct tlsf_heap *const kept = tlsf_kept(heap);
     const size_t byte = tlsf_allocate_payload(heap, len);
     if (byte == 0) return TLSF_NULL;
