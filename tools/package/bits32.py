@@ -14,6 +14,10 @@ memory   what takes memory, which is C, is called likewise
 Then each line of the result has to be of a form that means the same on 32 bits.
 What isn't known is refused, and so is a module that lacks one of these edits.
 
+A temporary of 1,000 bytes or more isn't set to zeros first: all of it that is
+read was written. LLVM leaves most of these out by itself. It kept two heaps of
+tlsf_pools_open's, which took 5 kB of stack.
+
 With `one_level` each call takes level 5 for one that isn't there, and refuses it.
 Then nothing leads to the functions for that level, and LLVM leaves them out. What
 has room for the heads of level 5's lists has room for those of level 4.
@@ -417,13 +421,28 @@ def of_one_level(text):
     return few
 
 
+ZEROS = re.compile(r"^  call void @llvm\.memset\.p0\.i64\(ptr (%[\w.]+), i8 0, (i64 (\d{4,})), i1 false\)\n", re.M)
+
+
+def without_zeros(text, poison):
+    """A module in which no long temporary is set to zeros; with `poison` it has a pattern, which nobody may read."""
+
+    def edited(it, function):
+        if f"  {it[1]} = alloca [{it[3]} x i8]" not in function:
+            raise Failed(f"no temporary: {it[0].strip()}")
+        return it[0].replace("i8 0", f"i8 {POISON % 128}") if poison else ""
+
+    functions = re.split(r"^(?=define )", text, flags=re.M)
+    return "".join(ZEROS.sub(lambda it, one=one: edited(it, one), one) for one in functions)
+
+
 def narrow(text, known, of_c, lacks=None, poison=False, one_level=False):
     """A module of the library that was moved to a target of 32 bits, with these edits but that which it `lacks`; and how many there are of each.
     `known` are the calls of peachanchor.h by their names, and `of_c` has how C makes them there."""
     lines = Lines(lacks, poison)
     text = re.sub(r' "frame-pointer"="[^"]*"', "", text)
     text = re.sub(r"(?<=[ {])uwtable(?:\(\w+\))? ", "", text)
-    text = of_one_level(text) if one_level else text
+    text = without_zeros(of_one_level(text) if one_level else text, poison)
     text = lines.edited(re.sub(r"^(attributes #\d+ = \{) *\}", r"\1 nounwind }", text, flags=re.M))
     if lacks != "call":
         lines.count["call"] = len(heads(text, "define"))
