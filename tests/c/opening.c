@@ -9,7 +9,7 @@
 #include <stdlib.h>
 #include <string.h>
 
-enum { STACK = 1 << 17, PAINT = 0x5a, LEVELS = 2, OWN_FIELDS = 1000, ROWS = sizeof(void *) == 8 ? 3000 : 8000 };
+enum { STACK = 1 << 17, PAINT = 0x5a, LEVELS = 2, OWN_FIELDS = 1000, ROWS = 3000 };
 
 static _Alignas(4096) unsigned char stack[STACK];
 static _Alignas(64) unsigned char memory[1 << 16];
