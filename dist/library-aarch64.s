@@ -19383,13 +19383,13 @@ tlsf_aligned_alloc:
 	ret
 .Lp_BB5_7:
 	.cfi_restore_state
-	ldr	x9, [x0, #16]
+	ldr	w9, [x0, #16]
+	sub	w10, w1, #1
 	lsr	x2, x1, #3
 	orr	x1, x8, #0x8
 	mov	x19, x0
-	lsr	x9, x9, #3
-	sub	w10, w2, #1
-	and	w3, w9, w10
+	and	w9, w10, w9
+	lsr	w3, w9, #3
 	bl	tlsf_allocate_aligned
 	lsr	x8, x0, #32
 	cbnz	x8, .Lp_BB5_11
@@ -19428,6 +19428,8 @@ tlsf_aligned_alloc:
 	.type	tlsf_malloc,@function
 tlsf_malloc:
 	.cfi_startproc
+	ldrb	w8, [x0, #28]
+	cbnz	w8, .Lp_BB6_4
 	stp	x29, x30, [sp, #-32]!
 	.cfi_def_cfa_offset 32
 	str	x19, [sp, #16]
@@ -19436,11 +19438,7 @@ tlsf_malloc:
 	.cfi_offset w19, -16
 	.cfi_offset w30, -24
 	.cfi_offset w29, -32
-	.cfi_remember_state
-	ldrb	w8, [x0, #28]
 	mov	x19, x0
-	cbnz	w8, .Lp_BB6_4
-	mov	x0, x19
 	bl	tlsf_allocate_payload
 	cbz	x0, .Lp_BB6_3
 	ldr	x8, [x19, #16]
@@ -19455,15 +19453,6 @@ tlsf_malloc:
 	.cfi_restore w29
 	ret
 .Lp_BB6_4:
-	.cfi_restore_state
-	mov	x0, x19
-	.cfi_def_cfa wsp, 32
-	ldr	x19, [sp, #16]
-	ldp	x29, x30, [sp], #32
-	.cfi_def_cfa_offset 0
-	.cfi_restore w19
-	.cfi_restore w30
-	.cfi_restore w29
 	b	tlsf_malloc_mixed
 .Lp_func_end6:
 	.size	tlsf_malloc, .Lp_func_end6-tlsf_malloc
@@ -19473,12 +19462,6 @@ tlsf_malloc:
 	.type	tlsf_malloc_mixed,@function
 tlsf_malloc_mixed:
 	.cfi_startproc
-	mov	w8, #134217728
-	cmp	x1, x8
-	b.ls	.Lp_BB7_2
-	mov	x0, xzr
-	ret
-.Lp_BB7_2:
 	stp	x29, x30, [sp, #-32]!
 	.cfi_def_cfa_offset 32
 	str	x19, [sp, #16]
@@ -19487,18 +19470,32 @@ tlsf_malloc_mixed:
 	.cfi_offset w19, -16
 	.cfi_offset w30, -24
 	.cfi_offset w29, -32
-	mov	w2, #1
+	.cfi_remember_state
+	ldrb	w8, [x0, #29]
+	tst	w8, #0xffffffef
+	b.ne	.Lp_BB7_6
 	mov	x19, x0
-	bl	tlsf_mixed_place
-	lsr	x8, x0, #32
-	cbnz	x8, .Lp_BB7_4
+	bl	tlsf_allocate_payload
+	cbz	x0, .Lp_BB7_4
 	ldr	x8, [x19, #16]
-	add	x8, x8, x0, lsl #3
-	add	x0, x8, #24
-	b	.Lp_BB7_5
+	add	x1, x8, x0
+	tst	x1, #0xf
+	b.eq	.Lp_BB7_5
+	mov	x0, x19
+	.cfi_def_cfa wsp, 32
+	ldr	x19, [sp, #16]
+	ldp	x29, x30, [sp], #32
+	.cfi_def_cfa_offset 0
+	.cfi_restore w19
+	.cfi_restore w30
+	.cfi_restore w29
+	b	tlsf_malloc_again
 .Lp_BB7_4:
-	mov	x0, xzr
+	.cfi_restore_state
+	.cfi_remember_state
+	mov	x1, xzr
 .Lp_BB7_5:
+	mov	x0, x1
 	.cfi_def_cfa wsp, 32
 	ldr	x19, [sp, #16]
 	ldp	x29, x30, [sp], #32
@@ -19507,6 +19504,16 @@ tlsf_malloc_mixed:
 	.cfi_restore w30
 	.cfi_restore w29
 	ret
+.Lp_BB7_6:
+	.cfi_restore_state
+	.cfi_def_cfa wsp, 32
+	ldr	x19, [sp, #16]
+	ldp	x29, x30, [sp], #32
+	.cfi_def_cfa_offset 0
+	.cfi_restore w19
+	.cfi_restore w30
+	.cfi_restore w29
+	b	tlsf_malloc_own
 .Lp_func_end7:
 	.size	tlsf_malloc_mixed, .Lp_func_end7-tlsf_malloc_mixed
 	.cfi_endproc
@@ -19752,8 +19759,8 @@ tlsf_realloc:
 .Lp_BB13_6:
 	ldrb	w8, [x0, #28]
 	cbnz	w8, .Lp_BB13_12
-	mov	x1, x2
 	mov	x19, x0
+	mov	x1, x2
 	bl	tlsf_allocate_payload
 	cbz	x0, .Lp_BB13_11
 	ldr	x8, [x19, #16]
@@ -19832,46 +19839,51 @@ tlsf_realloc_mixed:
 	.cfi_offset w30, -56
 	.cfi_offset w29, -64
 	ldr	x8, [x0, #16]
-	mov	w9, #-1
-	ldrb	w10, [x0, #29]
+	mov	w10, #-1
+	mov	x22, x2
+	mov	x21, x1
 	mov	x19, x0
 	stp	xzr, xzr, [sp]
 	sub	x8, x1, x8
 	str	xzr, [sp, #16]
 	sub	x8, x8, #24
-	ror	x8, x8, #3
-	cmp	x8, x9
-	csel	x20, x8, x9, lo
-	cmp	w10, #0
-	mov	w8, #16
-	csel	w8, w8, w10, eq
-	add	x9, x2, x8
+	ror	x9, x8, #3
+	ldrb	w8, [x0, #29]
+	cmp	x9, x10
+	csel	x20, x9, x10, lo
+	tst	w8, #0xffffffef
+	b.eq	.Lp_BB14_2
+	add	x9, x22, x8
 	neg	x10, x8
-	cmp	w8, #8
 	add	x9, x9, #23
 	and	x9, x9, x10
 	sub	x23, x9, #24
-	b.ne	.Lp_BB14_3
-.Lp_BB14_1:
+	b	.Lp_BB14_3
+.Lp_BB14_2:
+	add	w9, w22, #7
+	and	x9, x9, #0x1ffffff0
+	orr	x23, x9, #0x8
+.Lp_BB14_3:
+	cmp	w8, #8
+	b.ne	.Lp_BB14_6
+.Lp_BB14_4:
 	add	x3, sp, #24
 	mov	x0, x19
 	mov	w1, w20
 	mov	x2, x23
 	str	w20, [sp, #24]
 	bl	tlsf_resize_place
-	cbz	w0, .Lp_BB14_10
+	cbz	w0, .Lp_BB14_13
 	mov	x23, xzr
-	b	.Lp_BB14_11
-.Lp_BB14_3:
-	mov	x22, x2
-	mov	x21, x1
+	b	.Lp_BB14_14
+.Lp_BB14_6:
 	mov	x2, sp
 	mov	x0, x19
 	mov	w1, w20
 	bl	tlsf_block_at
-	cbnz	w0, .Lp_BB14_1
+	cbnz	w0, .Lp_BB14_4
 	ldr	w8, [sp, #8]
-	cbz	w8, .Lp_BB14_1
+	cbz	w8, .Lp_BB14_4
 	ldr	w8, [sp, #4]
 	stp	xzr, xzr, [sp, #24]
 	str	xzr, [sp, #40]
@@ -19884,7 +19896,7 @@ tlsf_realloc_mixed:
 	lsr	x9, x23, #3
 	add	x24, x9, #3
 	cmp	x24, x8
-	b.ls	.Lp_BB14_1
+	b.ls	.Lp_BB14_4
 	ldr	w9, [sp]
 	add	x2, sp, #24
 	mov	x0, x19
@@ -19892,18 +19904,18 @@ tlsf_realloc_mixed:
 	bl	tlsf_block_at
 	ldr	w8, [sp, #32]
 	orr	w8, w0, w8
-	cbnz	w8, .Lp_BB14_8
+	cbnz	w8, .Lp_BB14_11
 	ldr	w8, [sp, #4]
 	ldr	w9, [sp, #28]
 	add	w8, w9, w8
 	cmp	x24, x8
-	b.ls	.Lp_BB14_1
-.Lp_BB14_8:
+	b.ls	.Lp_BB14_4
+.Lp_BB14_11:
 	mov	x0, x19
 	mov	x1, x22
 	bl	tlsf_malloc
 	mov	x23, x0
-	cbz	x0, .Lp_BB14_11
+	cbz	x0, .Lp_BB14_14
 	ldr	w8, [sp, #12]
 	mov	x0, x23
 	mov	x1, x21
@@ -19913,13 +19925,13 @@ tlsf_realloc_mixed:
 	mov	x0, x19
 	mov	w1, w20
 	bl	tlsf_release_place
-	b	.Lp_BB14_11
-.Lp_BB14_10:
+	b	.Lp_BB14_14
+.Lp_BB14_13:
 	ldr	x8, [x19, #16]
 	ldr	w9, [sp, #24]
 	add	x8, x8, x9, lsl #3
 	add	x23, x8, #24
-.Lp_BB14_11:
+.Lp_BB14_14:
 	mov	x0, x23
 	.cfi_def_cfa wsp, 112
 	ldp	x20, x19, [sp, #96]
@@ -19995,13 +20007,13 @@ tlsf_allocate_at:
 	mov	w8, #5
 	b	.Lp_BB15_14
 .Lp_BB15_7:
-	ldr	x9, [x21, #16]
+	ldr	w9, [x21, #16]
+	sub	w10, w2, #1
 	lsr	x2, x2, #3
 	orr	x1, x8, #0x8
 	mov	x0, x21
-	lsr	x9, x9, #3
-	sub	w10, w2, #1
-	and	w3, w9, w10
+	and	w9, w10, w9
+	lsr	w3, w9, #3
 	bl	tlsf_allocate_aligned
 	lsr	x8, x0, #32
 	cbnz	x8, .Lp_BB15_14
@@ -20009,15 +20021,12 @@ tlsf_allocate_at:
 	ldr	w24, [x21, #24]
 	tbnz	w22, #0, .Lp_BB15_13
 	ldr	x8, [x21, #16]
-	ldrb	w9, [x21, #28]
+	ldrb	w9, [x21, #29]
 	mov	x22, x1
 	mov	x25, x0
 	add	x8, x8, x0, lsl #3
-	cbz	w9, .Lp_BB15_11
-	ldrb	w9, [x21, #29]
-	mov	w10, #16
-	cmp	w9, #0
-	csel	w9, w10, w9, eq
+	tst	w9, #0xffffffef
+	b.eq	.Lp_BB15_11
 	cmp	x23, #1
 	csinc	x10, x23, xzr, hi
 	add	x10, x10, x9
@@ -20717,17 +20726,22 @@ tlsf_mixed_place:
 	.cfi_offset w29, -48
 	ldrb	w8, [x0, #29]
 	mov	w9, #16
+	add	w11, w1, #7
 	mov	x19, x0
 	cmp	w8, #0
+	neg	x10, x8
 	csel	w21, w9, w8, eq
 	cmp	x1, #1
-	csinc	x8, x1, xzr, hi
-	neg	x9, x21
+	csinc	x9, x1, xzr, hi
+	tst	w8, #0xffffffef
+	add	x9, x9, x8
+	add	x9, x9, #23
+	and	x9, x9, x10
+	and	x10, x11, #0x1ffffff0
+	sub	x9, x9, #24
+	orr	x10, x10, #0x8
+	csel	x20, x9, x10, ne
 	cmp	x2, x21
-	add	x8, x8, x21
-	add	x8, x8, #23
-	and	x8, x8, x9
-	sub	x20, x8, #24
 	b.hi	.Lp_BB24_4
 	mov	x0, x19
 	mov	x1, x20
@@ -20736,23 +20750,23 @@ tlsf_mixed_place:
 	mov	x8, x0
 	cbnz	x9, .Lp_BB24_5
 	ldr	x9, [x19, #16]
+	sub	x10, x21, #1
 	add	x9, x9, x8, lsl #3
 	add	x9, x9, #24
-	udiv	x10, x9, x21
-	msub	x9, x10, x21, x9
-	cbz	x9, .Lp_BB24_5
+	tst	x10, x9
+	b.eq	.Lp_BB24_5
 	mov	x0, x19
 	mov	w1, w8
 	bl	tlsf_release_place
 	mov	x2, x21
 .Lp_BB24_4:
-	ldr	x8, [x19, #16]
+	ldr	w8, [x19, #16]
+	sub	w9, w2, #1
 	lsr	x2, x2, #3
 	mov	x0, x19
 	mov	x1, x20
-	lsr	x8, x8, #3
-	udiv	x9, x8, x2
-	msub	w3, w9, w2, w8
+	and	w8, w9, w8
+	lsr	w3, w8, #3
 	bl	tlsf_allocate_aligned
 	mov	x8, x0
 .Lp_BB24_5:
@@ -20770,6 +20784,103 @@ tlsf_mixed_place:
 	ret
 .Lp_func_end24:
 	.size	tlsf_mixed_place, .Lp_func_end24-tlsf_mixed_place
+	.cfi_endproc
+	.p2align	2
+	.type	tlsf_malloc_own,@function
+tlsf_malloc_own:
+	.cfi_startproc
+	mov	w8, #134217728
+	cmp	x1, x8
+	b.ls	.Lp_BB25_2
+	mov	x0, xzr
+	ret
+.Lp_BB25_2:
+	stp	x29, x30, [sp, #-32]!
+	.cfi_def_cfa_offset 32
+	str	x19, [sp, #16]
+	mov	x29, sp
+	.cfi_def_cfa w29, 32
+	.cfi_offset w19, -16
+	.cfi_offset w30, -24
+	.cfi_offset w29, -32
+	mov	w2, #1
+	mov	x19, x0
+	bl	tlsf_mixed_place
+	lsr	x8, x0, #32
+	cbnz	x8, .Lp_BB25_4
+	ldr	x8, [x19, #16]
+	add	x8, x8, x0, lsl #3
+	add	x0, x8, #24
+	b	.Lp_BB25_5
+.Lp_BB25_4:
+	mov	x0, xzr
+.Lp_BB25_5:
+	.cfi_def_cfa wsp, 32
+	ldr	x19, [sp, #16]
+	ldp	x29, x30, [sp], #32
+	.cfi_def_cfa_offset 0
+	.cfi_restore w19
+	.cfi_restore w30
+	.cfi_restore w29
+	ret
+.Lp_func_end25:
+	.size	tlsf_malloc_own, .Lp_func_end25-tlsf_malloc_own
+	.cfi_endproc
+	.p2align	2
+	.type	tlsf_malloc_again,@function
+tlsf_malloc_again:
+	.cfi_startproc
+	sub	sp, sp, #64
+	.cfi_def_cfa_offset 64
+	stp	x29, x30, [sp, #32]
+	str	x19, [sp, #48]
+	add	x29, sp, #32
+	.cfi_def_cfa w29, 32
+	.cfi_offset w19, -16
+	.cfi_offset w30, -24
+	.cfi_offset w29, -32
+	ldr	x8, [x0, #16]
+	mov	w9, #-1
+	add	x2, sp, #8
+	mov	x19, x0
+	stp	xzr, xzr, [sp, #8]
+	sub	x8, x1, x8
+	str	xzr, [sp, #24]
+	sub	x8, x8, #24
+	ror	x8, x8, #3
+	cmp	x8, x9
+	csel	x1, x8, x9, lo
+	bl	tlsf_block_at
+	cbnz	w0, .Lp_BB26_3
+	ldr	w1, [sp, #8]
+	mov	x0, x19
+	bl	tlsf_release_place
+	ldr	w8, [x19, #16]
+	ldr	w1, [sp, #20]
+	mov	x0, x19
+	mov	w2, #2
+	ubfx	w3, w8, #3, #1
+	bl	tlsf_allocate_aligned
+	lsr	x8, x0, #32
+	cbnz	x8, .Lp_BB26_3
+	ldr	x8, [x19, #16]
+	add	x8, x8, x0, lsl #3
+	add	x0, x8, #24
+	b	.Lp_BB26_4
+.Lp_BB26_3:
+	mov	x0, xzr
+.Lp_BB26_4:
+	.cfi_def_cfa wsp, 64
+	ldp	x29, x30, [sp, #32]
+	ldr	x19, [sp, #48]
+	add	sp, sp, #64
+	.cfi_def_cfa_offset 0
+	.cfi_restore w19
+	.cfi_restore w30
+	.cfi_restore w29
+	ret
+.Lp_func_end26:
+	.size	tlsf_malloc_again, .Lp_func_end26-tlsf_malloc_again
 	.cfi_endproc
 	.type	.L.str,@object
 	.section	.rodata,"a",@progbits

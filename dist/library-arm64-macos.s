@@ -18804,11 +18804,11 @@ Lp_BB5_6:
 Lp_BB5_7:
 	.cfi_restore_state
 	lsr	x2, x1, #3
-	ldr	x10, [x0, #16]
-	lsr	x10, x10, #3
-	sub	w11, w2, #1
+	ldr	w10, [x0, #16]
+	sub	w11, w1, #1
+	and	w10, w11, w10
+	lsr	w3, w10, #3
 	orr	x1, x9, x8
-	and	w3, w10, w11
 	mov	x19, x0
 	bl	_tlsf_allocate_aligned
 	lsr	x8, x0, #32
@@ -18896,12 +18896,6 @@ Lp_BB6_7:
 	.p2align	2
 _tlsf_malloc_mixed:
 	.cfi_startproc
-	mov	w8, #134217728
-	cmp	x1, x8
-	b.ls	Lp_BB7_2
-	mov	x0, #0
-	ret
-Lp_BB7_2:
 	stp	x20, x19, [sp, #-32]!
 	.cfi_def_cfa_offset 32
 	stp	x29, x30, [sp, #16]
@@ -18911,18 +18905,35 @@ Lp_BB7_2:
 	.cfi_offset w29, -16
 	.cfi_offset w19, -24
 	.cfi_offset w20, -32
+	.cfi_remember_state
+	ldrb	w8, [x0, #29]
+	tst	w8, #0xfffffff7
+	b.ne	Lp_BB7_6
 	mov	x19, x0
-	mov	w2, #1
-	bl	_tlsf_mixed_place
-	lsr	x8, x0, #32
-	cbnz	x8, Lp_BB7_4
+	; InlineAsm Start
+	; InlineAsm End
+	bl	_tlsf_allocate_payload
+	cbz	x0, Lp_BB7_4
 	ldr	x8, [x19, #16]
-	add	x8, x8, x0, lsl #3
-	add	x0, x8, #24
-	b	Lp_BB7_5
+	add	x1, x8, x0
+	tst	x1, #0x7
+	b.eq	Lp_BB7_5
+	mov	x0, x19
+	.cfi_def_cfa wsp, 32
+	ldp	x29, x30, [sp, #16]
+	ldp	x20, x19, [sp], #32
+	.cfi_def_cfa_offset 0
+	.cfi_restore w30
+	.cfi_restore w29
+	.cfi_restore w19
+	.cfi_restore w20
+	b	_tlsf_malloc_again
 Lp_BB7_4:
-	mov	x0, #0
+	.cfi_restore_state
+	.cfi_remember_state
+	mov	x1, #0
 Lp_BB7_5:
+	mov	x0, x1
 	.cfi_def_cfa wsp, 32
 	ldp	x29, x30, [sp, #16]
 	ldp	x20, x19, [sp], #32
@@ -18932,6 +18943,17 @@ Lp_BB7_5:
 	.cfi_restore w19
 	.cfi_restore w20
 	ret
+Lp_BB7_6:
+	.cfi_restore_state
+	.cfi_def_cfa wsp, 32
+	ldp	x29, x30, [sp, #16]
+	ldp	x20, x19, [sp], #32
+	.cfi_def_cfa_offset 0
+	.cfi_restore w30
+	.cfi_restore w29
+	.cfi_restore w19
+	.cfi_restore w20
+	b	_tlsf_malloc_own
 	.cfi_endproc
 	.globl	_tlsf_words_for
 	.p2align	2
@@ -19257,29 +19279,26 @@ _tlsf_realloc_mixed:
 	.cfi_offset w22, -48
 	.cfi_offset w23, -56
 	.cfi_offset w24, -64
+	mov	x21, x2
 	mov	x19, x0
 	stp	xzr, xzr, [sp]
-	str	xzr, [sp, #16]
 	ldr	x8, [x0, #16]
 	sub	x8, x1, x8
 	sub	x8, x8, #24
 	ror	x8, x8, #3
+	str	xzr, [sp, #16]
 	mov	w9, #-1
 	cmp	x8, x9
 	csel	x20, x8, x9, lo
 	ldrb	w8, [x0, #29]
-	mov	w9, #8
-	cmp	w8, #0
-	csel	w8, w9, w8, eq
-	add	x9, x2, x8
+	tst	w8, #0xfffffff7
+	b.eq	Lp_BB14_8
+	mov	x22, x1
+	add	x9, x21, x8
 	add	x9, x9, #23
-	neg	x10, x8
-	and	x9, x9, x10
-	sub	x23, x9, #24
-	cmp	w8, #8
-	b.eq	Lp_BB14_7
-	mov	x22, x2
-	mov	x21, x1
+	neg	x8, x8
+	and	x8, x9, x8
+	sub	x23, x8, #24
 	mov	x2, sp
 	mov	x0, x19
 	mov	x1, x20
@@ -19293,7 +19312,7 @@ _tlsf_realloc_mixed:
 	sub	w9, w9, #24
 	cmp	x23, x9
 	csel	x10, x23, x9, lo
-	cmp	x22, x9
+	cmp	x21, x9
 	csel	x23, x23, x10, hi
 	lsr	x9, x23, #3
 	add	x24, x9, #3
@@ -19316,36 +19335,45 @@ _tlsf_realloc_mixed:
 	b.ls	Lp_BB14_7
 Lp_BB14_5:
 	mov	x0, x19
-	mov	x1, x22
+	mov	x1, x21
 	bl	_tlsf_malloc
 	mov	x23, x0
-	cbz	x0, Lp_BB14_10
+	cbz	x0, Lp_BB14_12
 	ldr	w8, [sp, #12]
-	cmp	x22, x8
-	csel	x2, x22, x8, lo
+	cmp	x21, x8
+	csel	x2, x21, x8, lo
 	mov	x0, x23
-	mov	x1, x21
+	mov	x1, x22
 	bl	_memcpy
 	mov	x0, x19
 	mov	x1, x20
 	bl	_tlsf_release_place
-	b	Lp_BB14_10
+	b	Lp_BB14_12
 Lp_BB14_7:
 	str	w20, [sp, #24]
 	add	x3, sp, #24
 	mov	x0, x19
 	mov	x1, x20
 	mov	x2, x23
-	bl	_tlsf_resize_place
-	cbz	w0, Lp_BB14_9
-	mov	x23, #0
-	b	Lp_BB14_10
+	b	Lp_BB14_9
+Lp_BB14_8:
+	add	w8, w21, #7
+	str	w20, [sp, #24]
+	and	x2, x8, #0x1ffffff8
+	add	x3, sp, #24
+	mov	x0, x19
+	mov	x1, x20
 Lp_BB14_9:
+	bl	_tlsf_resize_place
+	cbz	w0, Lp_BB14_11
+	mov	x23, #0
+	b	Lp_BB14_12
+Lp_BB14_11:
 	ldr	x8, [x19, #16]
 	ldr	w9, [sp, #24]
 	add	x8, x8, x9, lsl #3
 	add	x23, x8, #24
-Lp_BB14_10:
+Lp_BB14_12:
 	mov	x0, x23
 	.cfi_def_cfa wsp, 112
 	ldp	x29, x30, [sp, #96]
@@ -19404,15 +19432,15 @@ _tlsf_allocate_at:
 	ldrb	w8, [x21, #29]
 	cmp	w8, #9
 	b.hs	Lp_BB15_16
-	add	w9, w1, #7
-	mov	w8, #8
+	add	w8, w1, #7
+	mov	w9, #8
 	mov	x23, x1
 	cmp	x1, #0
-	csel	x8, x8, xzr, eq
-	and	x9, x9, #0x1ffffff8
+	csel	x9, x9, xzr, eq
+	and	x10, x8, #0x1ffffff8
 	cmp	x2, #8
 	b.hi	Lp_BB15_7
-	orr	x1, x9, x8
+	orr	x1, x10, x9
 	mov	x0, x21
 	bl	_tlsf_allocate_place
 	lsr	x8, x0, #32
@@ -19422,13 +19450,14 @@ Lp_BB15_6:
 	mov	w8, #5
 	b	Lp_BB15_14
 Lp_BB15_7:
-	lsr	x2, x2, #3
-	ldr	x10, [x21, #16]
-	lsr	x10, x10, #3
-	sub	w11, w2, #1
-	orr	x1, x9, x8
-	and	w3, w10, w11
+	lsr	x8, x2, #3
+	ldr	w11, [x21, #16]
+	sub	w12, w2, #1
+	and	w11, w12, w11
+	lsr	w3, w11, #3
+	orr	x1, x10, x9
 	mov	x0, x21
+	mov	x2, x8
 	bl	_tlsf_allocate_aligned
 	lsr	x8, x0, #32
 	cbnz	x8, Lp_BB15_14
@@ -19440,16 +19469,8 @@ Lp_BB15_8:
 	ldrb	w9, [x21, #29]
 	mov	x22, x1
 	mov	x25, x0
-	cmp	x9, #8
-	b.hi	Lp_BB15_11
-	add	w9, w23, #7
-	mov	w10, #8
-	cmp	x23, #0
-	csel	x10, x10, xzr, eq
-	and	x9, x9, #0x1ffffff8
-	orr	x1, x9, x10
-	b	Lp_BB15_12
-Lp_BB15_11:
+	tst	w9, #0xfffffff7
+	b.eq	Lp_BB15_11
 	cmp	x23, #1
 	csinc	x10, x23, xzr, hi
 	add	x10, x10, x9
@@ -19457,6 +19478,14 @@ Lp_BB15_11:
 	neg	x9, x9
 	and	x9, x10, x9
 	sub	x1, x9, #24
+	b	Lp_BB15_12
+Lp_BB15_11:
+	add	w9, w23, #7
+	mov	w10, #8
+	cmp	x23, #0
+	csel	x10, x10, xzr, eq
+	and	x9, x9, #0x1ffffff8
+	orr	x1, x9, x10
 Lp_BB15_12:
 	add	x0, x8, #24
 	bl	_bzero
@@ -20134,12 +20163,20 @@ _tlsf_mixed_place:
 	cmp	w8, #0
 	csel	w21, w9, w8, eq
 	cmp	x1, #1
-	csinc	x8, x1, xzr, hi
-	add	x8, x8, x21
-	add	x8, x8, #23
-	neg	x9, x21
-	and	x8, x8, x9
-	sub	x20, x8, #24
+	csinc	x9, x1, xzr, hi
+	add	x9, x9, x8
+	add	x9, x9, #23
+	neg	x10, x8
+	and	x9, x9, x10
+	sub	x9, x9, #24
+	add	w10, w1, #7
+	mov	w11, #8
+	cmp	x1, #0
+	csel	x11, x11, xzr, eq
+	and	x10, x10, #0x1ffffff8
+	orr	x10, x10, x11
+	tst	w8, #0xfffffff7
+	csel	x20, x9, x10, ne
 	cmp	x2, x21
 	b.hi	Lp_BB24_4
 	mov	x0, x19
@@ -20151,21 +20188,22 @@ _tlsf_mixed_place:
 	ldr	x9, [x19, #16]
 	add	x9, x9, x8, lsl #3
 	add	x9, x9, #24
-	udiv	x10, x9, x21
-	msub	x9, x10, x21, x9
-	cbz	x9, Lp_BB24_5
+	sub	x10, x21, #1
+	tst	x10, x9
+	b.eq	Lp_BB24_5
 	mov	x0, x19
 	mov	x1, x8
 	bl	_tlsf_release_place
 	mov	x2, x21
 Lp_BB24_4:
-	lsr	x2, x2, #3
-	ldr	x8, [x19, #16]
-	lsr	x8, x8, #3
-	udiv	x9, x8, x2
-	msub	w3, w9, w2, w8
+	lsr	x8, x2, #3
+	ldr	w9, [x19, #16]
+	sub	w10, w2, #1
+	and	w9, w10, w9
+	lsr	w3, w9, #3
 	mov	x0, x19
 	mov	x1, x20
+	mov	x2, x8
 	bl	_tlsf_allocate_aligned
 	mov	x8, x0
 Lp_BB24_5:
@@ -20181,6 +20219,100 @@ Lp_BB24_5:
 	.cfi_restore w20
 	.cfi_restore w21
 	.cfi_restore w22
+	ret
+	.cfi_endproc
+	.p2align	2
+_tlsf_malloc_own:
+	.cfi_startproc
+	mov	w8, #134217728
+	cmp	x1, x8
+	b.ls	Lp_BB25_2
+	mov	x0, #0
+	ret
+Lp_BB25_2:
+	stp	x20, x19, [sp, #-32]!
+	.cfi_def_cfa_offset 32
+	stp	x29, x30, [sp, #16]
+	add	x29, sp, #16
+	.cfi_def_cfa w29, 16
+	.cfi_offset w30, -8
+	.cfi_offset w29, -16
+	.cfi_offset w19, -24
+	.cfi_offset w20, -32
+	mov	x19, x0
+	mov	w2, #1
+	bl	_tlsf_mixed_place
+	lsr	x8, x0, #32
+	cbnz	x8, Lp_BB25_4
+	ldr	x8, [x19, #16]
+	add	x8, x8, x0, lsl #3
+	add	x0, x8, #24
+	b	Lp_BB25_5
+Lp_BB25_4:
+	mov	x0, #0
+Lp_BB25_5:
+	.cfi_def_cfa wsp, 32
+	ldp	x29, x30, [sp, #16]
+	ldp	x20, x19, [sp], #32
+	.cfi_def_cfa_offset 0
+	.cfi_restore w30
+	.cfi_restore w29
+	.cfi_restore w19
+	.cfi_restore w20
+	ret
+	.cfi_endproc
+	.p2align	2
+_tlsf_malloc_again:
+	.cfi_startproc
+	sub	sp, sp, #64
+	.cfi_def_cfa_offset 64
+	stp	x20, x19, [sp, #32]
+	stp	x29, x30, [sp, #48]
+	add	x29, sp, #48
+	.cfi_def_cfa w29, 16
+	.cfi_offset w30, -8
+	.cfi_offset w29, -16
+	.cfi_offset w19, -24
+	.cfi_offset w20, -32
+	mov	x19, x0
+	stp	xzr, xzr, [sp, #8]
+	str	xzr, [sp, #24]
+	ldr	x8, [x0, #16]
+	sub	x8, x1, x8
+	sub	x8, x8, #24
+	ror	x8, x8, #3
+	mov	w9, #-1
+	cmp	x8, x9
+	csel	x1, x8, x9, lo
+	add	x2, sp, #8
+	bl	_tlsf_block_at
+	cbnz	w0, Lp_BB26_3
+	ldr	w1, [sp, #8]
+	mov	x0, x19
+	bl	_tlsf_release_place
+	ldr	w1, [sp, #20]
+	mov	x0, x19
+	mov	w2, #1
+	mov	w3, #0
+	bl	_tlsf_allocate_aligned
+	lsr	x8, x0, #32
+	cbnz	x8, Lp_BB26_3
+	ldr	x8, [x19, #16]
+	add	x8, x8, x0, lsl #3
+	add	x0, x8, #24
+	b	Lp_BB26_4
+Lp_BB26_3:
+	mov	x0, #0
+Lp_BB26_4:
+	.cfi_def_cfa wsp, 64
+	ldp	x29, x30, [sp, #48]
+	ldp	x20, x19, [sp, #32]
+	add	sp, sp, #64
+	.cfi_def_cfa_offset 0
+	.cfi_restore w30
+	.cfi_restore w29
+	.cfi_restore w19
+	.cfi_restore w20
 	ret
 	.cfi_endproc
 	.section	__TEXT,__cstring,cstring_literals

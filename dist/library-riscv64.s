@@ -31931,19 +31931,19 @@ tlsf_aligned_alloc:
 	.cfi_offset ra, -8
 	.cfi_offset s0, -16
 	.cfi_remember_state
-	lui	a3, 32768
-	bltu	a3, a1, .Lp_BB5_9
-	addi	a3, a3, 1
-	bgeu	a2, a3, .Lp_BB5_9
-	lbu	a3, 28(a0)
-	bnez	a3, .Lp_BB5_10
+	lui	a4, 32768
+	bltu	a4, a1, .Lp_BB5_9
+	addi	a4, a4, 1
+	bgeu	a2, a4, .Lp_BB5_9
+	lbu	a4, 28(a0)
+	bnez	a4, .Lp_BB5_10
 	addi	a2, a2, 7
-	lui	a3, 131072
-	addi	a3, a3, -16
-	and	a2, a2, a3
-	li	a3, 16
+	lui	a4, 131072
+	addi	a4, a4, -16
+	and	a2, a2, a4
+	li	a5, 16
 	addiw	a4, a2, 8
-	bltu	a3, a1, .Lp_BB5_7
+	bltu	a5, a1, .Lp_BB5_7
 	mv	s0, a0
 	mv	a1, a4
 	call	tlsf_allocate_place
@@ -31955,12 +31955,10 @@ tlsf_aligned_alloc:
 	ret
 .Lp_BB5_7:
 	.cfi_restore_state
-	ld	a3, 16(a0)
+	lwu	a5, 16(a0)
 	srli	a2, a1, 3
+	and	a3, a3, a5
 	srli	a3, a3, 3
-	addi	a1, a2, -1
-	and	a1, a1, a3
-	sext.w	a3, a1
 	mv	s0, a0
 	mv	a1, a4
 	call	tlsf_allocate_aligned
@@ -32001,17 +31999,15 @@ tlsf_aligned_alloc:
 	.type	tlsf_malloc,@function
 tlsf_malloc:
 	.cfi_startproc
+	lbu	a2, 28(a0)
+	bnez	a2, .Lp_BB6_4
 	addi	sp, sp, -16
 	.cfi_def_cfa_offset 16
 	sd	ra, 8(sp)
 	sd	s0, 0(sp)
 	.cfi_offset ra, -8
 	.cfi_offset s0, -16
-	.cfi_remember_state
 	mv	s0, a0
-	lbu	a0, 28(a0)
-	bnez	a0, .Lp_BB6_4
-	mv	a0, s0
 	call	tlsf_allocate_payload
 	beqz	a0, .Lp_BB6_3
 	ld	a1, 16(s0)
@@ -32025,14 +32021,6 @@ tlsf_malloc:
 	.cfi_def_cfa_offset 0
 	ret
 .Lp_BB6_4:
-	.cfi_restore_state
-	mv	a0, s0
-	ld	ra, 8(sp)
-	ld	s0, 0(sp)
-	.cfi_restore ra
-	.cfi_restore s0
-	addi	sp, sp, 16
-	.cfi_def_cfa_offset 0
 	tail	tlsf_malloc_mixed
 .Lp_func_end6:
 	.size	tlsf_malloc, .Lp_func_end6-tlsf_malloc
@@ -32042,30 +32030,37 @@ tlsf_malloc:
 	.type	tlsf_malloc_mixed,@function
 tlsf_malloc_mixed:
 	.cfi_startproc
-	lui	a2, 32768
-	bgeu	a2, a1, .Lp_BB7_2
-	li	a0, 0
-	ret
-.Lp_BB7_2:
 	addi	sp, sp, -16
 	.cfi_def_cfa_offset 16
 	sd	ra, 8(sp)
 	sd	s0, 0(sp)
 	.cfi_offset ra, -8
 	.cfi_offset s0, -16
+	.cfi_remember_state
+	lbu	a2, 29(a0)
+	andi	a2, a2, 239
+	bnez	a2, .Lp_BB7_6
 	mv	s0, a0
-	li	a2, 1
-	call	tlsf_mixed_place
-	srli	a1, a0, 32
-	bnez	a1, .Lp_BB7_4
+	call	tlsf_allocate_payload
+	beqz	a0, .Lp_BB7_4
 	ld	a1, 16(s0)
-	slli	a0, a0, 3
-	add	a0, a0, a1
-	addi	a0, a0, 24
-	j	.Lp_BB7_5
+	add	a1, a1, a0
+	andi	a0, a1, 15
+	beqz	a0, .Lp_BB7_5
+	mv	a0, s0
+	ld	ra, 8(sp)
+	ld	s0, 0(sp)
+	.cfi_restore ra
+	.cfi_restore s0
+	addi	sp, sp, 16
+	.cfi_def_cfa_offset 0
+	tail	tlsf_malloc_again
 .Lp_BB7_4:
-	li	a0, 0
+	.cfi_restore_state
+	.cfi_remember_state
+	li	a1, 0
 .Lp_BB7_5:
+	mv	a0, a1
 	ld	ra, 8(sp)
 	ld	s0, 0(sp)
 	.cfi_restore ra
@@ -32073,6 +32068,15 @@ tlsf_malloc_mixed:
 	addi	sp, sp, 16
 	.cfi_def_cfa_offset 0
 	ret
+.Lp_BB7_6:
+	.cfi_restore_state
+	ld	ra, 8(sp)
+	ld	s0, 0(sp)
+	.cfi_restore ra
+	.cfi_restore s0
+	addi	sp, sp, 16
+	.cfi_def_cfa_offset 0
+	tail	tlsf_malloc_own
 .Lp_func_end7:
 	.size	tlsf_malloc_mixed, .Lp_func_end7-tlsf_malloc_mixed
 	.cfi_endproc
@@ -32443,30 +32447,37 @@ tlsf_realloc_mixed:
 	mv	s1, a0
 .Lp_BB14_2:
 	lbu	a0, 29(s0)
-	bnez	a0, .Lp_BB14_4
-	li	a0, 16
-.Lp_BB14_4:
+	andi	a1, a0, 239
+	beqz	a1, .Lp_BB14_4
 	add	a1, s4, a0
-	neg	a2, a0
 	addi	a1, a1, 23
+	neg	a2, a0
 	and	a1, a1, a2
-	li	a2, 8
 	addi	s5, a1, -24
-	bne	a0, a2, .Lp_BB14_6
+	j	.Lp_BB14_5
+.Lp_BB14_4:
+	addi	a1, s4, 7
+	lui	a2, 131072
+	addi	a2, a2, -16
+	and	a1, a1, a2
+	addiw	s5, a1, 8
+.Lp_BB14_5:
+	li	a1, 8
+	bne	a0, a1, .Lp_BB14_7
 	sw	s1, 24(sp)
 	sext.w	a1, s1
 	addi	a3, sp, 24
 	mv	a0, s0
-	j	.Lp_BB14_18
-.Lp_BB14_6:
+	j	.Lp_BB14_19
+.Lp_BB14_7:
 	sext.w	s3, s1
 	mv	a2, sp
 	mv	a0, s0
 	mv	a1, s3
 	call	tlsf_block_at
-	bnez	a0, .Lp_BB14_17
+	bnez	a0, .Lp_BB14_18
 	lw	a0, 8(sp)
-	beqz	a0, .Lp_BB14_17
+	beqz	a0, .Lp_BB14_18
 	lwu	a0, 4(sp)
 	slli	a1, a0, 3
 	addi	a1, a1, -24
@@ -32475,15 +32486,15 @@ tlsf_realloc_mixed:
 	sltu	a2, a1, s4
 	neg	a2, a2
 	or	a1, a1, a2
-	bltu	s5, a1, .Lp_BB14_10
+	bltu	s5, a1, .Lp_BB14_11
 	mv	s5, a1
-.Lp_BB14_10:
+.Lp_BB14_11:
 	srli	s6, s5, 3
 	addi	s6, s6, 3
 	sd	zero, 24(sp)
 	sd	zero, 32(sp)
 	sd	zero, 40(sp)
-	bgeu	a0, s6, .Lp_BB14_17
+	bgeu	a0, s6, .Lp_BB14_18
 	lw	a1, 0(sp)
 	addw	a1, a1, a0
 	addi	a2, sp, 24
@@ -32491,23 +32502,23 @@ tlsf_realloc_mixed:
 	call	tlsf_block_at
 	lw	a1, 32(sp)
 	or	a0, a0, a1
-	bnez	a0, .Lp_BB14_13
+	bnez	a0, .Lp_BB14_14
 	lw	a0, 4(sp)
 	lw	a1, 28(sp)
 	add	a0, a0, a1
 	slli	a0, a0, 32
 	srli	a0, a0, 32
-	bgeu	a0, s6, .Lp_BB14_17
-.Lp_BB14_13:
+	bgeu	a0, s6, .Lp_BB14_18
+.Lp_BB14_14:
 	mv	a0, s0
 	mv	a1, s4
 	call	tlsf_malloc
-	beqz	a0, .Lp_BB14_19
+	beqz	a0, .Lp_BB14_20
 	mv	s1, a0
 	lwu	a0, 12(sp)
-	bltu	s4, a0, .Lp_BB14_16
+	bltu	s4, a0, .Lp_BB14_17
 	mv	s4, a0
-.Lp_BB14_16:
+.Lp_BB14_17:
 	mv	a0, s1
 	mv	a1, s2
 	mv	a2, s4
@@ -32515,26 +32526,26 @@ tlsf_realloc_mixed:
 	mv	a0, s0
 	mv	a1, s3
 	call	tlsf_release_place
-	j	.Lp_BB14_21
-.Lp_BB14_17:
+	j	.Lp_BB14_22
+.Lp_BB14_18:
 	sw	s1, 24(sp)
 	addi	a3, sp, 24
 	mv	a0, s0
 	mv	a1, s3
-.Lp_BB14_18:
+.Lp_BB14_19:
 	mv	a2, s5
 	call	tlsf_resize_place
-	beqz	a0, .Lp_BB14_20
-.Lp_BB14_19:
-	li	s1, 0
-	j	.Lp_BB14_21
+	beqz	a0, .Lp_BB14_21
 .Lp_BB14_20:
+	li	s1, 0
+	j	.Lp_BB14_22
+.Lp_BB14_21:
 	lwu	a0, 24(sp)
 	ld	a1, 16(s0)
 	slli	a0, a0, 3
 	add	a0, a0, a1
 	addi	s1, a0, 24
-.Lp_BB14_21:
+.Lp_BB14_22:
 	mv	a0, s1
 	ld	ra, 104(sp)
 	ld	s0, 96(sp)
@@ -32596,75 +32607,68 @@ tlsf_allocate_at:
 	bgeu	a3, a4, .Lp_BB15_6
 	mv	s0, a0
 	lui	a0, 32768
-	bltu	a0, a1, .Lp_BB15_17
+	bltu	a0, a1, .Lp_BB15_15
 	addi	a0, a0, 1
-	bgeu	a2, a0, .Lp_BB15_17
+	bgeu	a2, a0, .Lp_BB15_15
 	mv	s2, a5
 	lbu	a0, 28(s0)
-	lui	s5, 131072
-	addi	s5, s5, -16
-	addi	s6, a1, 7
-	bnez	a0, .Lp_BB15_18
-	mv	s4, a1
-	and	a1, s6, s5
+	lui	s4, 131072
+	addi	s4, s4, -16
+	addi	s5, a1, 7
+	bnez	a0, .Lp_BB15_16
+	mv	s6, a1
+	and	a1, s5, s4
 	li	a0, 16
 	addiw	a1, a1, 8
 	bltu	a0, a2, .Lp_BB15_7
 	mv	a0, s0
 	call	tlsf_allocate_place
 	srli	a2, a0, 32
-	bnez	a2, .Lp_BB15_16
+	bnez	a2, .Lp_BB15_14
 	j	.Lp_BB15_8
 .Lp_BB15_6:
 	li	a2, 5
-	j	.Lp_BB15_16
+	j	.Lp_BB15_14
 .Lp_BB15_7:
-	ld	a0, 16(s0)
+	lwu	a0, 16(s0)
 	srli	a2, a2, 3
-	srli	a0, a0, 3
-	addi	a3, a2, -1
 	and	a0, a0, a3
-	sext.w	a3, a0
+	srli	a3, a0, 3
 	mv	a0, s0
 	call	tlsf_allocate_aligned
 	srli	a2, a0, 32
-	bnez	a2, .Lp_BB15_16
+	bnez	a2, .Lp_BB15_14
 .Lp_BB15_8:
 	lw	s7, 24(s0)
 	andi	a2, s1, 1
 	slli	s1, a0, 3
-	bnez	a2, .Lp_BB15_15
-	ld	a2, 16(s0)
-	lbu	a4, 28(s0)
-	add	a2, a2, s1
-	addi	a3, a2, 24
-	beqz	a4, .Lp_BB15_13
+	bnez	a2, .Lp_BB15_13
+	ld	a3, 16(s0)
 	lbu	a2, 29(s0)
-	bnez	a2, .Lp_BB15_12
-	li	a2, 16
-.Lp_BB15_12:
+	add	a3, a3, s1
+	andi	a4, a2, 239
+	addi	a3, a3, 24
 	mv	s8, a1
 	mv	s9, a0
-	seqz	a0, s4
-	add	a0, a0, s4
+	beqz	a4, .Lp_BB15_11
+	seqz	a0, s6
+	add	a0, a0, s6
 	add	a0, a0, a2
 	addi	a0, a0, 23
 	neg	a1, a2
 	and	a0, a0, a1
 	addi	a2, a0, -24
-	j	.Lp_BB15_14
-.Lp_BB15_13:
-	mv	s8, a1
-	mv	s9, a0
-	and	a2, s6, s5
+	j	.Lp_BB15_12
+.Lp_BB15_11:
+	and	a2, s5, s4
 	addiw	a2, a2, 8
-.Lp_BB15_14:
+.Lp_BB15_12:
 	mv	a0, a3
 	li	a1, 0
 	call	memset
 	mv	a0, s9
 	mv	a1, s8
-.Lp_BB15_15:
+.Lp_BB15_13:
 	li	a2, 0
 	ld	a3, 16(s0)
 	sw	s7, 0(s3)
@@ -32673,7 +32677,7 @@ tlsf_allocate_at:
 	add	a3, a3, s1
 	addi	a3, a3, 24
 	sd	a3, 0(s2)
-.Lp_BB15_16:
+.Lp_BB15_14:
 	sext.w	a0, a2
 	ld	ra, 88(sp)
 	ld	s0, 80(sp)
@@ -32700,7 +32704,7 @@ tlsf_allocate_at:
 	addi	sp, sp, 96
 	.cfi_def_cfa_offset 0
 	ret
-.Lp_BB15_17:
+.Lp_BB15_15:
 	.cfi_restore_state
 	.cfi_remember_state
 	mv	a0, s0
@@ -32729,13 +32733,13 @@ tlsf_allocate_at:
 	addi	sp, sp, 96
 	.cfi_def_cfa_offset 0
 	tail	tlsf_too_long
-.Lp_BB15_18:
+.Lp_BB15_16:
 	.cfi_restore_state
 	mv	a0, s0
-	mv	s4, a1
+	mv	s6, a1
 	call	tlsf_mixed_place
 	srli	a2, a0, 32
-	bnez	a2, .Lp_BB15_16
+	bnez	a2, .Lp_BB15_14
 	j	.Lp_BB15_8
 .Lp_func_end15:
 	.size	tlsf_allocate_at, .Lp_func_end15-tlsf_allocate_at
@@ -33393,42 +33397,57 @@ tlsf_mixed_place:
 	.cfi_offset s1, -24
 	.cfi_offset s2, -32
 	mv	s0, a0
-	lbu	s1, 29(a0)
-	bnez	s1, .Lp_BB24_2
+	lbu	a0, 29(a0)
+	mv	s1, a0
+	bnez	a0, .Lp_BB24_2
 	li	s1, 16
 .Lp_BB24_2:
-	seqz	a0, a1
-	add	a0, a0, a1
-	add	a0, a0, s1
-	addi	a0, a0, 23
-	neg	a1, s1
+	andi	a3, a0, 239
+	beqz	a3, .Lp_BB24_4
+	seqz	a3, a1
+	add	a1, a1, a3
+	add	a1, a1, a0
+	addi	a1, a1, 23
+	neg	a0, a0
 	and	a0, a0, a1
 	addi	s2, a0, -24
-	bltu	s1, a2, .Lp_BB24_6
+	bgeu	s1, a2, .Lp_BB24_5
+	j	.Lp_BB24_8
+.Lp_BB24_4:
+	addi	a1, a1, 7
+	lui	a0, 131072
+	addi	a0, a0, -16
+	and	a0, a0, a1
+	addiw	s2, a0, 8
+	bltu	s1, a2, .Lp_BB24_8
+.Lp_BB24_5:
 	mv	a0, s0
 	mv	a1, s2
 	call	tlsf_allocate_place
 	srli	a2, a0, 32
-	bnez	a2, .Lp_BB24_7
+	bnez	a2, .Lp_BB24_9
 	ld	a2, 16(s0)
 	slli	a3, a0, 3
 	add	a2, a2, a3
 	addi	a2, a2, 24
-	remu	a2, a2, s1
-	beqz	a2, .Lp_BB24_7
+	addi	a3, s1, -1
+	and	a2, a2, a3
+	beqz	a2, .Lp_BB24_9
 	sext.w	a1, a0
 	mv	a0, s0
 	call	tlsf_release_place
 	mv	a2, s1
-.Lp_BB24_6:
-	ld	a0, 16(s0)
-	srli	a2, a2, 3
-	srli	a0, a0, 3
-	remu	a3, a0, a2
+.Lp_BB24_8:
+	lwu	a0, 16(s0)
+	srli	a4, a2, 3
+	addi	a2, a2, -1
+	and	a0, a0, a2
+	srli	a3, a0, 3
 	mv	a0, s0
 	mv	a1, s2
+	mv	a2, a4
 	call	tlsf_allocate_aligned
-.Lp_BB24_7:
+.Lp_BB24_9:
 	ld	ra, 24(sp)
 	ld	s0, 16(sp)
 	ld	s1, 8(sp)
@@ -33442,6 +33461,104 @@ tlsf_mixed_place:
 	ret
 .Lp_func_end24:
 	.size	tlsf_mixed_place, .Lp_func_end24-tlsf_mixed_place
+	.cfi_endproc
+	.p2align	1
+	.type	tlsf_malloc_own,@function
+tlsf_malloc_own:
+	.cfi_startproc
+	lui	a2, 32768
+	bgeu	a2, a1, .Lp_BB25_2
+	li	a0, 0
+	ret
+.Lp_BB25_2:
+	addi	sp, sp, -16
+	.cfi_def_cfa_offset 16
+	sd	ra, 8(sp)
+	sd	s0, 0(sp)
+	.cfi_offset ra, -8
+	.cfi_offset s0, -16
+	mv	s0, a0
+	li	a2, 1
+	call	tlsf_mixed_place
+	srli	a1, a0, 32
+	bnez	a1, .Lp_BB25_4
+	ld	a1, 16(s0)
+	slli	a0, a0, 3
+	add	a0, a0, a1
+	addi	a0, a0, 24
+	j	.Lp_BB25_5
+.Lp_BB25_4:
+	li	a0, 0
+.Lp_BB25_5:
+	ld	ra, 8(sp)
+	ld	s0, 0(sp)
+	.cfi_restore ra
+	.cfi_restore s0
+	addi	sp, sp, 16
+	.cfi_def_cfa_offset 0
+	ret
+.Lp_func_end25:
+	.size	tlsf_malloc_own, .Lp_func_end25-tlsf_malloc_own
+	.cfi_endproc
+	.p2align	1
+	.type	tlsf_malloc_again,@function
+tlsf_malloc_again:
+	.cfi_startproc
+	addi	sp, sp, -48
+	.cfi_def_cfa_offset 48
+	sd	ra, 40(sp)
+	sd	s0, 32(sp)
+	.cfi_offset ra, -8
+	.cfi_offset s0, -16
+	mv	s0, a0
+	ld	a0, 16(a0)
+	sub	a1, a1, a0
+	addi	a1, a1, -24
+	srli	a0, a1, 3
+	slli	a1, a1, 61
+	or	a1, a1, a0
+	li	a0, -1
+	srli	a0, a0, 32
+	sd	zero, 8(sp)
+	sd	zero, 16(sp)
+	sd	zero, 24(sp)
+	bltu	a1, a0, .Lp_BB26_2
+	mv	a1, a0
+.Lp_BB26_2:
+	sext.w	a1, a1
+	addi	a2, sp, 8
+	mv	a0, s0
+	call	tlsf_block_at
+	bnez	a0, .Lp_BB26_5
+	lw	a1, 8(sp)
+	mv	a0, s0
+	call	tlsf_release_place
+	lw	a0, 16(s0)
+	lwu	a1, 20(sp)
+	slli	a0, a0, 60
+	srli	a3, a0, 63
+	li	a2, 2
+	mv	a0, s0
+	call	tlsf_allocate_aligned
+	srli	a1, a0, 32
+	bnez	a1, .Lp_BB26_5
+	ld	a1, 16(s0)
+	slli	a0, a0, 3
+	add	a0, a0, a1
+	addi	a0, a0, 24
+	j	.Lp_BB26_6
+.Lp_BB26_5:
+	li	a0, 0
+.Lp_BB26_6:
+	ld	ra, 40(sp)
+	ld	s0, 32(sp)
+	.cfi_restore ra
+	.cfi_restore s0
+	addi	sp, sp, 48
+	.cfi_def_cfa_offset 0
+	ret
+.Lp_func_end26:
+	.size	tlsf_malloc_again, .Lp_func_end26-tlsf_malloc_again
 	.cfi_endproc
 	.type	.L.str,@object
 	.section	.rodata.str1.1,"aMS",@progbits,1

@@ -18746,16 +18746,15 @@ tlsf_aligned_alloc:
 	callq	tlsf_allocate_place
 	jmp	.Lp_BB5_8
 .Lp_BB5_7:
-	shrq	$3, %r9
-	movq	16(%rcx), %rax
-	shrq	$3, %rax
-	leal	-1(%r9), %edx
-	andl	%edx, %eax
+	movq	%r9, %rdx
+	shrq	$3, %rdx
+	decl	%r9d
+	andl	16(%rcx), %r9d
+	shrl	$3, %r9d
 	movq	%rcx, %rbx
 	movq	%rcx, %rdi
 	movq	%r8, %rsi
-	movl	%r9d, %edx
-	movl	%eax, %ecx
+	movl	%r9d, %ecx
 	callq	tlsf_allocate_aligned
 .Lp_BB5_8:
 	movq	%rax, 32(%rsp)
@@ -18813,10 +18812,9 @@ tlsf_malloc:
 	subq	$32, %rsp
 	.seh_stackalloc 32
 	.seh_endprologue
-	movq	%rcx, %rsi
 	cmpb	$0, 28(%rcx)
 	jne	.Lp_BB6_5
-	movq	%rsi, %rcx
+	movq	%rcx, %rsi
 	callq	tlsf_allocate_payload
 	testq	%rax, %rax
 	je	.Lp_BB6_2
@@ -18829,7 +18827,6 @@ tlsf_malloc:
 	popq	%rsi
 	retq
 .Lp_BB6_5:
-	movq	%rsi, %rcx
 	addq	$32, %rsp
 	popq	%rsi
 	jmp	tlsf_malloc_mixed
@@ -18842,35 +18839,33 @@ tlsf_malloc_mixed:
 .seh_proc tlsf_malloc_mixed
 	pushq	%rsi
 	.seh_pushreg %rsi
-	pushq	%rdi
-	.seh_pushreg %rdi
-	subq	$56, %rsp
-	.seh_stackalloc 56
+	subq	$32, %rsp
+	.seh_stackalloc 32
 	.seh_endprologue
-	cmpq	$134217728, %rdx
-	jbe	.Lp_BB7_2
-.Lp_BB7_1:
+	testb	$-17, 29(%rcx)
+	jne	.Lp_BB7_5
+	movq	%rcx, %rsi
+	callq	tlsf_allocate_payload
+	testq	%rax, %rax
+	je	.Lp_BB7_2
+	addq	16(%rsi), %rax
+	testb	$15, %al
+	je	.Lp_BB7_4
+	movq	%rsi, %rcx
+	movq	%rax, %rdx
+	addq	$32, %rsp
+	popq	%rsi
+	jmp	tlsf_malloc_again
+.Lp_BB7_2:
 	xorl	%eax, %eax
 .Lp_BB7_4:
-	addq	$56, %rsp
-	popq	%rdi
+	addq	$32, %rsp
 	popq	%rsi
 	retq
-.Lp_BB7_2:
-	movq	%rdx, %r8
-	movq	%rcx, %rsi
-	leaq	40(%rsp), %rdi
-	movl	$1, %r9d
-	movq	%rdi, %rcx
-	movq	%rsi, %rdx
-	callq	tlsf_mixed_place
-	cmpl	$0, 4(%rdi)
-	jne	.Lp_BB7_1
-	movl	40(%rsp), %eax
-	movq	16(%rsi), %rcx
-	leaq	(%rcx,%rax,8), %rax
-	addq	$24, %rax
-	jmp	.Lp_BB7_4
+.Lp_BB7_5:
+	addq	$32, %rsp
+	popq	%rsi
+	jmp	tlsf_malloc_own
 	.seh_endproc
 	.def	tlsf_words_for;
 	.scl	2;
@@ -19152,6 +19147,8 @@ tlsf_realloc_mixed:
 	subq	$96, %rsp
 	.seh_stackalloc 96
 	.seh_endprologue
+	movq	%r8, %r14
+	movq	%rdx, %rbx
 	movq	%rcx, %rsi
 	xorps	%xmm0, %xmm0
 	movaps	%xmm0, 64(%rsp)
@@ -19164,42 +19161,44 @@ tlsf_realloc_mixed:
 	cmpq	%rax, %rdi
 	cmovaeq	%rax, %rdi
 	movzbl	29(%rcx), %eax
-	testb	%al, %al
-	movl	$16, %ecx
-	cmovnel	%eax, %ecx
-	movzbl	%cl, %eax
-	leaq	(%r8,%rax), %rcx
+	testb	$-17, %al
+	je	.Lp_BB14_1
+	leaq	(%r14,%rax), %rcx
 	addq	$23, %rcx
 	movq	%rax, %r15
 	negq	%r15
 	andq	%rcx, %r15
 	addq	$-24, %r15
-	cmpb	$8, %al
-	jne	.Lp_BB14_4
+	jmp	.Lp_BB14_3
 .Lp_BB14_1:
+	leal	7(%r14), %r15d
+	andl	$536870896, %r15d
+	orq	$8, %r15
+.Lp_BB14_3:
+	cmpl	$8, %eax
+	jne	.Lp_BB14_7
+.Lp_BB14_4:
 	leaq	32(%rsp), %r9
 	movl	%edi, (%r9)
 	movq	%rsi, %rcx
 	movl	%edi, %edx
 	movq	%r15, %r8
-.Lp_BB14_2:
+.Lp_BB14_5:
 	callq	tlsf_resize_place
 	testl	%eax, %eax
-	je	.Lp_BB14_10
-.Lp_BB14_3:
+	je	.Lp_BB14_13
+.Lp_BB14_6:
 	xorl	%r15d, %r15d
-	jmp	.Lp_BB14_13
-.Lp_BB14_4:
-	movq	%rdx, %rbx
-	movq	%r8, %r14
+	jmp	.Lp_BB14_16
+.Lp_BB14_7:
 	leaq	64(%rsp), %r8
 	movq	%rsi, %rcx
 	movl	%edi, %edx
 	callq	tlsf_block_at
 	testl	%eax, %eax
-	jne	.Lp_BB14_1
+	jne	.Lp_BB14_4
 	cmpl	$0, 72(%rsp)
-	je	.Lp_BB14_1
+	je	.Lp_BB14_4
 	movl	68(%rsp), %eax
 	leal	-24(,%rax,8), %ecx
 	cmpq	%rcx, %r15
@@ -19214,7 +19213,7 @@ tlsf_realloc_mixed:
 	movaps	%xmm0, 32(%rsp)
 	movq	$0, 48(%rsp)
 	cmpq	%rax, %r13
-	jbe	.Lp_BB14_9
+	jbe	.Lp_BB14_12
 	movl	64(%rsp), %edx
 	addl	%eax, %edx
 	leaq	32(%rsp), %r15
@@ -19222,17 +19221,17 @@ tlsf_realloc_mixed:
 	movq	%r15, %r8
 	callq	tlsf_block_at
 	orl	8(%r15), %eax
-	jne	.Lp_BB14_11
+	jne	.Lp_BB14_14
 	movl	36(%rsp), %eax
 	addl	68(%rsp), %eax
 	cmpq	%rax, %r13
-	jbe	.Lp_BB14_9
-.Lp_BB14_11:
+	jbe	.Lp_BB14_12
+.Lp_BB14_14:
 	movq	%rsi, %rcx
 	movq	%r14, %rdx
 	callq	tlsf_malloc
 	testq	%rax, %rax
-	je	.Lp_BB14_3
+	je	.Lp_BB14_6
 	movq	%rax, %r15
 	movl	76(%rsp), %r8d
 	cmpq	%r8, %r14
@@ -19243,13 +19242,13 @@ tlsf_realloc_mixed:
 	movq	%rsi, %rcx
 	movl	%edi, %edx
 	callq	tlsf_release_place
-	jmp	.Lp_BB14_13
-.Lp_BB14_10:
+	jmp	.Lp_BB14_16
+.Lp_BB14_13:
 	movq	16(%rsi), %rax
 	movl	32(%rsp), %ecx
 	leaq	(%rax,%rcx,8), %r15
 	addq	$24, %r15
-.Lp_BB14_13:
+.Lp_BB14_16:
 	movq	%r15, %rax
 	addq	$96, %rsp
 	popq	%rbx
@@ -19260,13 +19259,13 @@ tlsf_realloc_mixed:
 	popq	%r14
 	popq	%r15
 	retq
-.Lp_BB14_9:
+.Lp_BB14_12:
 	leaq	32(%rsp), %r9
 	movl	%edi, (%r9)
 	movq	%rsi, %rcx
 	movl	%edi, %edx
 	movq	%r12, %r8
-	jmp	.Lp_BB14_2
+	jmp	.Lp_BB14_5
 	.seh_endproc
 	.def	tlsf_allocate_at;
 	.scl	2;
@@ -19342,13 +19341,13 @@ tlsf_allocate_at:
 	callq	tlsf_allocate_place
 	jmp	.Lp_BB15_8
 .Lp_BB15_7:
-	shrq	$3, %r9
-	movq	16(%rbx), %rcx
-	shrq	$3, %rcx
-	leal	-1(%r9), %eax
-	andl	%eax, %ecx
+	movq	%r9, %rdx
+	shrq	$3, %rdx
+	decl	%r9d
+	andl	16(%rbx), %r9d
+	shrl	$3, %r9d
 	movq	%rbx, %rdi
-	movl	%r9d, %edx
+	movl	%r9d, %ecx
 	callq	tlsf_allocate_aligned
 .Lp_BB15_8:
 	movq	%rax, %rcx
@@ -19363,29 +19362,23 @@ tlsf_allocate_at:
 	movl	%eax, %edi
 	leaq	(%rcx,%rdi,8), %rcx
 	addq	$24, %rcx
-	cmpb	$0, 28(%rbx)
-	je	.Lp_BB15_13
+	movzbl	29(%rbx), %r8d
 	movq	%rdx, %r13
 	movq	%rax, %rbp
-	movzbl	29(%rbx), %eax
-	testb	%al, %al
-	movl	$16, %edx
-	cmovnel	%eax, %edx
-	movzbl	%dl, %eax
+	testb	$-17, %r8b
+	je	.Lp_BB15_13
 	cmpq	$1, %r14
-	adcq	%rax, %r14
+	adcq	%r8, %r14
 	addq	$23, %r14
-	negq	%rax
-	andq	%r14, %rax
-	addq	$-24, %rax
-	movq	%rax, %r14
+	negq	%r8
+	andq	%r14, %r8
+	addq	$-24, %r8
+	movq	%r8, %r14
 	jmp	.Lp_BB15_15
 .Lp_BB15_11:
 	movl	%eax, %edi
 	jmp	.Lp_BB15_16
 .Lp_BB15_13:
-	movq	%rdx, %r13
-	movq	%rax, %rbp
 	addl	$7, %r14d
 	andl	$536870896, %r14d
 	orq	$8, %r14
@@ -20198,68 +20191,69 @@ tlsf_mixed_place:
 	movaps	%xmm6, 32(%rsp)
 	.seh_savexmm %xmm6, 32
 	.seh_endprologue
-	movq	%rdx, %r14
+	movq	%r8, %r14
+	movq	%rdx, %r15
 	movq	%rcx, %rbx
 	movzbl	29(%rdx), %eax
-	testb	%al, %al
-	movl	$16, %ecx
-	cmovnel	%eax, %ecx
-	movzbl	%cl, %r12d
-	cmpq	$1, %r8
-	adcq	%r12, %r8
-	addq	$23, %r8
-	movq	%r12, %r15
-	negq	%r15
-	andq	%r8, %r15
-	addq	$-24, %r15
+	testq	%rax, %rax
+	movl	$16, %r12d
+	cmovnel	%eax, %r12d
+	testb	$-17, %al
+	je	.Lp_BB24_1
+	cmpq	$1, %r14
+	adcq	%rax, %r14
+	addq	$23, %r14
+	negq	%rax
+	andq	%r14, %rax
+	addq	$-24, %rax
+	movq	%rax, %r14
+	jmp	.Lp_BB24_3
+.Lp_BB24_1:
+	addl	$7, %r14d
+	andl	$536870896, %r14d
+	orq	$8, %r14
+.Lp_BB24_3:
 	cmpq	%r12, %r9
-	jbe	.Lp_BB24_2
-	shrq	$3, %r9
-	movq	16(%r14), %rax
-	shrq	$3, %rax
-	xorl	%edx, %edx
-	divq	%r9
-	movq	%rdx, %rcx
-	movq	%r14, %rdi
-	movq	%r15, %rsi
-	movl	%r9d, %edx
-	jmp	.Lp_BB24_6
-.Lp_BB24_2:
-	movq	%r14, %rdi
-	movq	%r15, %rsi
+	jbe	.Lp_BB24_5
+	movq	%r9, %rdx
+	shrq	$3, %rdx
+	movl	$4294967295, %eax
+	addl	%eax, %r9d
+	andl	16(%r15), %r9d
+	shrl	$3, %r9d
+	movq	%r15, %rdi
+	movq	%r14, %rsi
+	movl	%r9d, %ecx
+	jmp	.Lp_BB24_8
+.Lp_BB24_5:
+	movq	%r15, %rdi
+	movq	%r14, %rsi
 	callq	tlsf_allocate_place
-	movq	%rax, %r8
-	movq	%rdx, %rcx
-	shrq	$32, %rax
-	jne	.Lp_BB24_4
-	movq	16(%r14), %rax
-	leaq	(%rax,%r8,8), %rax
-	addq	$24, %rax
-	xorl	%edx, %edx
-	divq	%r12
-	testq	%rdx, %rdx
-	je	.Lp_BB24_4
-	movq	%r14, %rcx
-	movl	%r8d, %edx
+	movq	%rax, %rcx
+	shrq	$32, %rcx
+	jne	.Lp_BB24_9
+	movq	16(%r15), %rcx
+	leaq	(%rcx,%rax,8), %rcx
+	addq	$24, %rcx
+	leaq	-1(%r12), %r8
+	testq	%rcx, %r8
+	je	.Lp_BB24_9
+	movq	%r15, %rcx
+	movl	%eax, %edx
 	callq	tlsf_release_place
-	shrl	$3, %r12d
-	movq	16(%r14), %rax
-	shrq	$3, %rax
-	xorl	%edx, %edx
-	divq	%r12
-	movq	%rdx, %rcx
-	movq	%r14, %rdi
-	movq	%r15, %rsi
 	movl	%r12d, %edx
-.Lp_BB24_6:
+	shrl	$3, %edx
+	movl	$4294967295, %ecx
+	addl	%r12d, %ecx
+	andl	16(%r15), %ecx
+	shrl	$3, %ecx
+	movq	%r15, %rdi
+	movq	%r14, %rsi
+.Lp_BB24_8:
 	callq	tlsf_allocate_aligned
+.Lp_BB24_9:
 	movq	%rax, (%rbx)
 	movq	%rdx, 8(%rbx)
-	jmp	.Lp_BB24_7
-.Lp_BB24_4:
-	movq	%r8, (%rbx)
-	movq	%rcx, 8(%rbx)
-.Lp_BB24_7:
 	movq	%rbx, %rax
 	movaps	32(%rsp), %xmm6
 	movaps	48(%rsp), %xmm7
@@ -20278,6 +20272,129 @@ tlsf_mixed_place:
 	popq	%r12
 	popq	%r14
 	popq	%r15
+	retq
+	.seh_endproc
+	.def	tlsf_malloc_own;
+	.scl	3;
+	.type	32;
+	.endef
+tlsf_malloc_own:
+.seh_proc tlsf_malloc_own
+	pushq	%rsi
+	.seh_pushreg %rsi
+	pushq	%rdi
+	.seh_pushreg %rdi
+	subq	$56, %rsp
+	.seh_stackalloc 56
+	.seh_endprologue
+	cmpq	$134217728, %rdx
+	jbe	.Lp_BB25_2
+.Lp_BB25_1:
+	xorl	%eax, %eax
+.Lp_BB25_4:
+	addq	$56, %rsp
+	popq	%rdi
+	popq	%rsi
+	retq
+.Lp_BB25_2:
+	movq	%rdx, %r8
+	movq	%rcx, %rsi
+	leaq	40(%rsp), %rdi
+	movl	$1, %r9d
+	movq	%rdi, %rcx
+	movq	%rsi, %rdx
+	callq	tlsf_mixed_place
+	cmpl	$0, 4(%rdi)
+	jne	.Lp_BB25_1
+	movl	40(%rsp), %eax
+	movq	16(%rsi), %rcx
+	leaq	(%rcx,%rax,8), %rax
+	addq	$24, %rax
+	jmp	.Lp_BB25_4
+	.seh_endproc
+	.def	tlsf_malloc_again;
+	.scl	3;
+	.type	32;
+	.endef
+tlsf_malloc_again:
+.seh_proc tlsf_malloc_again
+	pushq	%rsi
+	.seh_pushreg %rsi
+	pushq	%rdi
+	.seh_pushreg %rdi
+	pushq	%rbx
+	.seh_pushreg %rbx
+	subq	$224, %rsp
+	.seh_stackalloc 224
+	movaps	%xmm15, 208(%rsp)
+	.seh_savexmm %xmm15, 208
+	movaps	%xmm14, 192(%rsp)
+	.seh_savexmm %xmm14, 192
+	movaps	%xmm13, 176(%rsp)
+	.seh_savexmm %xmm13, 176
+	movaps	%xmm12, 160(%rsp)
+	.seh_savexmm %xmm12, 160
+	movaps	%xmm11, 144(%rsp)
+	.seh_savexmm %xmm11, 144
+	movaps	%xmm10, 128(%rsp)
+	.seh_savexmm %xmm10, 128
+	movaps	%xmm9, 112(%rsp)
+	.seh_savexmm %xmm9, 112
+	movaps	%xmm8, 96(%rsp)
+	.seh_savexmm %xmm8, 96
+	movaps	%xmm7, 80(%rsp)
+	.seh_savexmm %xmm7, 80
+	movaps	%xmm6, 64(%rsp)
+	.seh_savexmm %xmm6, 64
+	.seh_endprologue
+	movq	%rcx, %rbx
+	xorps	%xmm0, %xmm0
+	leaq	32(%rsp), %r8
+	movaps	%xmm0, (%r8)
+	movq	$0, 16(%r8)
+	subq	16(%rcx), %rdx
+	addq	$-24, %rdx
+	rolq	$61, %rdx
+	movl	$4294967295, %eax
+	cmpq	%rax, %rdx
+	cmovaeq	%rax, %rdx
+	callq	tlsf_block_at
+	testl	%eax, %eax
+	jne	.Lp_BB26_1
+	movl	32(%rsp), %edx
+	movq	%rbx, %rcx
+	callq	tlsf_release_place
+	movl	44(%rsp), %esi
+	movl	16(%rbx), %ecx
+	shrl	$3, %ecx
+	andl	$1, %ecx
+	movq	%rbx, %rdi
+	movl	$2, %edx
+	callq	tlsf_allocate_aligned
+	movq	%rax, %rcx
+	shrq	$32, %rcx
+	jne	.Lp_BB26_1
+	movq	16(%rbx), %rcx
+	leaq	(%rcx,%rax,8), %rax
+	addq	$24, %rax
+	jmp	.Lp_BB26_4
+.Lp_BB26_1:
+	xorl	%eax, %eax
+.Lp_BB26_4:
+	movaps	64(%rsp), %xmm6
+	movaps	80(%rsp), %xmm7
+	movaps	96(%rsp), %xmm8
+	movaps	112(%rsp), %xmm9
+	movaps	128(%rsp), %xmm10
+	movaps	144(%rsp), %xmm11
+	movaps	160(%rsp), %xmm12
+	movaps	176(%rsp), %xmm13
+	movaps	192(%rsp), %xmm14
+	movaps	208(%rsp), %xmm15
+	addq	$224, %rsp
+	popq	%rbx
+	popq	%rdi
+	popq	%rsi
 	retq
 	.seh_endproc
 	.section	.rdata,"dr"

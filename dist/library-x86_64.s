@@ -19196,15 +19196,15 @@ tlsf_at:
 	.type	tlsf_aligned_alloc,@function
 tlsf_aligned_alloc:
 	.cfi_startproc
-	leaq	-1(%rsi), %rax
 	movq	%rsi, %rcx
-	xorq	%rax, %rcx
-	cmpq	%rax, %rcx
+	leaq	-1(%rsi), %rax
+	xorq	%rax, %rsi
+	cmpq	%rax, %rsi
 	jbe	.Lp_BB5_6
 	pushq	%rbx
 	.cfi_def_cfa_offset 16
 	.cfi_offset %rbx, -16
-	cmpq	$134217728, %rsi
+	cmpq	$134217728, %rcx
 	ja	.Lp_BB5_11
 	cmpq	$134217729, %rdx
 	jae	.Lp_BB5_11
@@ -19213,7 +19213,7 @@ tlsf_aligned_alloc:
 	addl	$7, %edx
 	andl	$536870896, %edx
 	orq	$8, %rdx
-	cmpq	$16, %rsi
+	cmpq	$16, %rcx
 	ja	.Lp_BB5_7
 	movq	%rdi, %rbx
 	movq	%rdx, %rsi
@@ -19227,13 +19227,12 @@ tlsf_aligned_alloc:
 .Lp_BB5_7:
 	.cfi_def_cfa_offset 16
 	.cfi_offset %rbx, -16
-	shrq	$3, %rsi
-	movq	16(%rdi), %rcx
-	shrq	$3, %rcx
-	leal	-1(%rsi), %eax
-	andl	%eax, %ecx
+	movq	%rcx, %rax
+	shrq	$3, %rax
+	decl	%ecx
+	andl	16(%rdi), %ecx
+	shrl	$3, %ecx
 	movq	%rdi, %rbx
-	movq	%rsi, %rax
 	movq	%rdx, %rsi
 	movl	%eax, %edx
 	callq	tlsf_allocate_aligned@PLT
@@ -19262,9 +19261,8 @@ tlsf_aligned_alloc:
 	.cfi_def_cfa_offset 16
 	.cfi_offset %rbx, -16
 	movq	%rdi, %rbx
-	movq	%rsi, %rax
 	movq	%rdx, %rsi
-	movq	%rax, %rdx
+	movq	%rcx, %rdx
 	callq	tlsf_mixed_place
 	jmp	.Lp_BB5_8
 .Lp_func_end5:
@@ -19275,13 +19273,12 @@ tlsf_aligned_alloc:
 	.type	tlsf_malloc,@function
 tlsf_malloc:
 	.cfi_startproc
+	cmpb	$0, 28(%rdi)
+	jne	tlsf_malloc_mixed
 	pushq	%rbx
 	.cfi_def_cfa_offset 16
 	.cfi_offset %rbx, -16
 	movq	%rdi, %rbx
-	cmpb	$0, 28(%rdi)
-	jne	.Lp_BB6_5
-	movq	%rbx, %rdi
 	callq	tlsf_allocate_payload@PLT
 	testq	%rax, %rax
 	je	.Lp_BB6_2
@@ -19295,12 +19292,6 @@ tlsf_malloc:
 	popq	%rbx
 	.cfi_def_cfa_offset 8
 	retq
-.Lp_BB6_5:
-	.cfi_def_cfa_offset 16
-	movq	%rbx, %rdi
-	popq	%rbx
-	.cfi_def_cfa_offset 8
-	jmp	tlsf_malloc_mixed
 .Lp_func_end6:
 	.size	tlsf_malloc, .Lp_func_end6-tlsf_malloc
 	.cfi_endproc
@@ -19308,31 +19299,35 @@ tlsf_malloc:
 	.type	tlsf_malloc_mixed,@function
 tlsf_malloc_mixed:
 	.cfi_startproc
-	cmpq	$134217728, %rsi
-	jbe	.Lp_BB7_3
-	xorl	%eax, %eax
-	retq
-.Lp_BB7_3:
 	pushq	%rbx
 	.cfi_def_cfa_offset 16
 	.cfi_offset %rbx, -16
+	testb	$-17, 29(%rdi)
+	jne	.Lp_BB7_5
 	movq	%rdi, %rbx
-	movl	$1, %edx
-	callq	tlsf_mixed_place
-	movq	%rax, %rcx
-	shrq	$32, %rcx
-	jne	.Lp_BB7_4
-	movq	16(%rbx), %rcx
-	leaq	(%rcx,%rax,8), %rax
-	addq	$24, %rax
-	jmp	.Lp_BB7_6
-.Lp_BB7_4:
-	xorl	%eax, %eax
-.Lp_BB7_6:
+	callq	tlsf_allocate_payload@PLT
+	testq	%rax, %rax
+	je	.Lp_BB7_2
+	addq	16(%rbx), %rax
+	testb	$15, %al
+	je	.Lp_BB7_4
+	movq	%rbx, %rdi
+	movq	%rax, %rsi
 	popq	%rbx
 	.cfi_def_cfa_offset 8
-	.cfi_restore %rbx
+	jmp	tlsf_malloc_again
+.Lp_BB7_2:
+	.cfi_def_cfa_offset 16
+	xorl	%eax, %eax
+.Lp_BB7_4:
+	popq	%rbx
+	.cfi_def_cfa_offset 8
 	retq
+.Lp_BB7_5:
+	.cfi_def_cfa_offset 16
+	popq	%rbx
+	.cfi_def_cfa_offset 8
+	jmp	tlsf_malloc_own
 .Lp_func_end7:
 	.size	tlsf_malloc_mixed, .Lp_func_end7-tlsf_malloc_mixed
 	.cfi_endproc
@@ -19636,6 +19631,8 @@ tlsf_realloc_mixed:
 	.cfi_offset %r14, -32
 	.cfi_offset %r15, -24
 	.cfi_offset %rbp, -16
+	movq	%rdx, %r12
+	movq	%rsi, %r15
 	movq	%rdi, %rbx
 	xorps	%xmm0, %xmm0
 	movaps	%xmm0, 32(%rsp)
@@ -19648,42 +19645,44 @@ tlsf_realloc_mixed:
 	cmpq	%rax, %r14
 	cmovaeq	%rax, %r14
 	movzbl	29(%rdi), %eax
-	testb	%al, %al
-	movl	$16, %ecx
-	cmovnel	%eax, %ecx
-	movzbl	%cl, %eax
-	leaq	(%rdx,%rax), %rcx
+	testb	$-17, %al
+	je	.Lp_BB14_1
+	leaq	(%r12,%rax), %rcx
 	addq	$23, %rcx
 	movq	%rax, %r13
 	negq	%r13
 	andq	%rcx, %r13
 	addq	$-24, %r13
-	cmpb	$8, %al
-	jne	.Lp_BB14_4
+	jmp	.Lp_BB14_3
 .Lp_BB14_1:
+	leal	7(%r12), %r13d
+	andl	$536870896, %r13d
+	orq	$8, %r13
+.Lp_BB14_3:
+	cmpl	$8, %eax
+	jne	.Lp_BB14_7
+.Lp_BB14_4:
 	movq	%rsp, %rcx
 	movl	%r14d, (%rcx)
 	movq	%rbx, %rdi
 	movl	%r14d, %esi
 	movq	%r13, %rdx
-.Lp_BB14_2:
+.Lp_BB14_5:
 	callq	tlsf_resize_place@PLT
 	testl	%eax, %eax
-	je	.Lp_BB14_10
-.Lp_BB14_3:
+	je	.Lp_BB14_13
+.Lp_BB14_6:
 	xorl	%r13d, %r13d
-	jmp	.Lp_BB14_13
-.Lp_BB14_4:
-	movq	%rsi, %r15
-	movq	%rdx, %r12
+	jmp	.Lp_BB14_16
+.Lp_BB14_7:
 	leaq	32(%rsp), %rdx
 	movq	%rbx, %rdi
 	movl	%r14d, %esi
 	callq	tlsf_block_at@PLT
 	testl	%eax, %eax
-	jne	.Lp_BB14_1
+	jne	.Lp_BB14_4
 	cmpl	$0, 40(%rsp)
-	je	.Lp_BB14_1
+	je	.Lp_BB14_4
 	movq	%r15, 64(%rsp)
 	movl	36(%rsp), %eax
 	leal	-24(,%rax,8), %ecx
@@ -19699,7 +19698,7 @@ tlsf_realloc_mixed:
 	movaps	%xmm0, (%rsp)
 	movq	$0, 16(%rsp)
 	cmpq	%rax, %rbp
-	jbe	.Lp_BB14_9
+	jbe	.Lp_BB14_12
 	movl	32(%rsp), %esi
 	addl	%eax, %esi
 	movq	%rsp, %r13
@@ -19707,17 +19706,17 @@ tlsf_realloc_mixed:
 	movq	%r13, %rdx
 	callq	tlsf_block_at@PLT
 	orl	8(%r13), %eax
-	jne	.Lp_BB14_11
+	jne	.Lp_BB14_14
 	movl	4(%rsp), %eax
 	addl	36(%rsp), %eax
 	cmpq	%rax, %rbp
-	jbe	.Lp_BB14_9
-.Lp_BB14_11:
+	jbe	.Lp_BB14_12
+.Lp_BB14_14:
 	movq	%rbx, %rdi
 	movq	%r12, %rsi
 	callq	tlsf_malloc@PLT
 	testq	%rax, %rax
-	je	.Lp_BB14_3
+	je	.Lp_BB14_6
 	movq	%rax, %r13
 	movl	44(%rsp), %edx
 	cmpq	%rdx, %r12
@@ -19728,13 +19727,13 @@ tlsf_realloc_mixed:
 	movq	%rbx, %rdi
 	movl	%r14d, %esi
 	callq	tlsf_release_place@PLT
-	jmp	.Lp_BB14_13
-.Lp_BB14_10:
+	jmp	.Lp_BB14_16
+.Lp_BB14_13:
 	movq	16(%rbx), %rax
 	movl	(%rsp), %ecx
 	leaq	(%rax,%rcx,8), %r13
 	addq	$24, %r13
-.Lp_BB14_13:
+.Lp_BB14_16:
 	movq	%r13, %rax
 	addq	$72, %rsp
 	.cfi_def_cfa_offset 56
@@ -19751,14 +19750,14 @@ tlsf_realloc_mixed:
 	popq	%rbp
 	.cfi_def_cfa_offset 8
 	retq
-.Lp_BB14_9:
+.Lp_BB14_12:
 	.cfi_def_cfa_offset 128
 	movq	%rsp, %rcx
 	movl	%r14d, (%rcx)
 	movq	%rbx, %rdi
 	movl	%r14d, %esi
 	movq	%r15, %rdx
-	jmp	.Lp_BB14_2
+	jmp	.Lp_BB14_5
 .Lp_func_end14:
 	.size	tlsf_realloc_mixed, .Lp_func_end14-tlsf_realloc_mixed
 	.cfi_endproc
@@ -19789,17 +19788,17 @@ tlsf_allocate_at:
 	.cfi_offset %r15, -24
 	.cfi_offset %rbp, -16
 	movl	%ecx, %ebp
+	movq	%rdx, %rcx
 	movq	%rsi, %r12
 	leaq	-1(%rdx), %rax
-	movq	%rdx, %rsi
-	xorq	%rax, %rsi
-	movl	$5, %ecx
-	cmpq	%rax, %rsi
+	xorq	%rax, %rdx
+	movl	$5, %esi
+	cmpq	%rax, %rdx
 	jbe	.Lp_BB15_15
 	movq	%rdi, %r15
 	cmpq	$134217728, %r12
 	ja	.Lp_BB15_16
-	cmpq	$134217729, %rdx
+	cmpq	$134217729, %rcx
 	jae	.Lp_BB15_16
 	movq	%r9, %rbx
 	movq	%r8, %r14
@@ -19808,22 +19807,22 @@ tlsf_allocate_at:
 	leal	7(%r12), %esi
 	andl	$536870896, %esi
 	orq	$8, %rsi
-	cmpq	$16, %rdx
+	cmpq	$16, %rcx
 	ja	.Lp_BB15_7
 	movq	%r15, %rdi
 	callq	tlsf_allocate_place@PLT
 	jmp	.Lp_BB15_8
 .Lp_BB15_7:
+	movq	%rcx, %rdx
 	shrq	$3, %rdx
-	movq	16(%r15), %rcx
-	shrq	$3, %rcx
-	leal	-1(%rdx), %eax
-	andl	%eax, %ecx
+	decl	%ecx
+	andl	16(%r15), %ecx
+	shrl	$3, %ecx
 	movq	%r15, %rdi
 	callq	tlsf_allocate_aligned@PLT
 .Lp_BB15_8:
-	movq	%rax, %rcx
-	shrq	$32, %rcx
+	movq	%rax, %rsi
+	shrq	$32, %rsi
 	jne	.Lp_BB15_15
 	movl	24(%r15), %r13d
 	testb	$1, %bpl
@@ -19831,22 +19830,18 @@ tlsf_allocate_at:
 	movq	16(%r15), %rcx
 	leaq	(%rcx,%rax,8), %rdi
 	addq	$24, %rdi
-	cmpb	$0, 28(%r15)
+	movzbl	29(%r15), %ecx
+	testb	$-17, %cl
 	movq	%rdx, (%rsp)
 	movq	%rax, %rbp
 	je	.Lp_BB15_11
-	movzbl	29(%r15), %eax
-	testb	%al, %al
-	movl	$16, %ecx
-	cmovnel	%eax, %ecx
-	movzbl	%cl, %eax
 	cmpq	$1, %r12
-	adcq	%rax, %r12
+	adcq	%rcx, %r12
 	addq	$23, %r12
-	negq	%rax
-	andq	%r12, %rax
-	addq	$-24, %rax
-	movq	%rax, %r12
+	negq	%rcx
+	andq	%r12, %rcx
+	addq	$-24, %rcx
+	movq	%rcx, %r12
 	jmp	.Lp_BB15_13
 .Lp_BB15_11:
 	addl	$7, %r12d
@@ -19866,9 +19861,9 @@ tlsf_allocate_at:
 	leaq	(%rcx,%rax,8), %rax
 	addq	$24, %rax
 	movq	%rax, (%rbx)
-	xorl	%ecx, %ecx
+	xorl	%esi, %esi
 .Lp_BB15_15:
-	movl	%ecx, %eax
+	movl	%esi, %eax
 	addq	$8, %rsp
 	.cfi_def_cfa_offset 56
 	popq	%rbx
@@ -19906,6 +19901,7 @@ tlsf_allocate_at:
 	.cfi_def_cfa_offset 64
 	movq	%r15, %rdi
 	movq	%r12, %rsi
+	movq	%rcx, %rdx
 	callq	tlsf_mixed_place
 	jmp	.Lp_BB15_8
 .Lp_func_end15:
@@ -20595,55 +20591,56 @@ tlsf_mixed_place:
 	.cfi_offset %rbx, -32
 	.cfi_offset %r14, -24
 	.cfi_offset %r15, -16
-	movq	%rdx, %r8
+	movq	%rdx, %rcx
+	movq	%rsi, %r14
 	movq	%rdi, %rbx
 	movzbl	29(%rdi), %eax
-	testb	%al, %al
-	movl	$16, %ecx
-	cmovnel	%eax, %ecx
-	movzbl	%cl, %r15d
-	cmpq	$1, %rsi
-	adcq	%r15, %rsi
-	addq	$23, %rsi
-	movq	%r15, %r14
-	negq	%r14
-	andq	%rsi, %r14
-	addq	$-24, %r14
-	cmpq	%r15, %rdx
-	ja	.Lp_BB24_4
+	testq	%rax, %rax
+	movl	$16, %r15d
+	cmovnel	%eax, %r15d
+	testb	$-17, %al
+	je	.Lp_BB24_1
+	cmpq	$1, %r14
+	adcq	%rax, %r14
+	addq	$23, %r14
+	negq	%rax
+	andq	%r14, %rax
+	addq	$-24, %rax
+	movq	%rax, %r14
+	jmp	.Lp_BB24_3
+.Lp_BB24_1:
+	addl	$7, %r14d
+	andl	$536870896, %r14d
+	orq	$8, %r14
+.Lp_BB24_3:
+	cmpq	%r15, %rcx
+	ja	.Lp_BB24_7
 	movq	%rbx, %rdi
 	movq	%r14, %rsi
 	callq	tlsf_allocate_place@PLT
-	movq	%rax, %rsi
-	movq	%rdx, %rcx
-	shrq	$32, %rax
-	jne	.Lp_BB24_5
-	movq	16(%rbx), %rax
-	leaq	(%rax,%rsi,8), %rax
-	addq	$24, %rax
-	xorl	%edx, %edx
-	divq	%r15
-	testq	%rdx, %rdx
-	je	.Lp_BB24_5
+	movq	%rax, %rcx
+	shrq	$32, %rcx
+	jne	.Lp_BB24_8
+	movq	16(%rbx), %rcx
+	leaq	(%rcx,%rax,8), %rcx
+	addq	$24, %rcx
+	leaq	-1(%r15), %rsi
+	testq	%rcx, %rsi
+	je	.Lp_BB24_8
 	movq	%rbx, %rdi
+	movl	%eax, %esi
 	callq	tlsf_release_place@PLT
-	movq	%r15, %r8
-.Lp_BB24_4:
-	shrq	$3, %r8
-	movq	16(%rbx), %rax
-	shrq	$3, %rax
-	xorl	%edx, %edx
-	divq	%r8
-	movq	%rdx, %rcx
+	movq	%r15, %rcx
+.Lp_BB24_7:
+	movq	%rcx, %rdx
+	shrq	$3, %rdx
+	decl	%ecx
+	andl	16(%rbx), %ecx
+	shrl	$3, %ecx
 	movq	%rbx, %rdi
 	movq	%r14, %rsi
-	movl	%r8d, %edx
 	callq	tlsf_allocate_aligned@PLT
-	movq	%rax, %rsi
-	movq	%rdx, %rcx
-.Lp_BB24_5:
-	movq	%rsi, %rax
-	movq	%rcx, %rdx
+.Lp_BB24_8:
 	popq	%rbx
 	.cfi_def_cfa_offset 24
 	popq	%r14
@@ -20653,6 +20650,87 @@ tlsf_mixed_place:
 	retq
 .Lp_func_end24:
 	.size	tlsf_mixed_place, .Lp_func_end24-tlsf_mixed_place
+	.cfi_endproc
+	.type	tlsf_malloc_own,@function
+tlsf_malloc_own:
+	.cfi_startproc
+	cmpq	$134217728, %rsi
+	jbe	.Lp_BB25_3
+	xorl	%eax, %eax
+	retq
+.Lp_BB25_3:
+	pushq	%rbx
+	.cfi_def_cfa_offset 16
+	.cfi_offset %rbx, -16
+	movq	%rdi, %rbx
+	movl	$1, %edx
+	callq	tlsf_mixed_place
+	movq	%rax, %rcx
+	shrq	$32, %rcx
+	jne	.Lp_BB25_4
+	movq	16(%rbx), %rcx
+	leaq	(%rcx,%rax,8), %rax
+	addq	$24, %rax
+	jmp	.Lp_BB25_6
+.Lp_BB25_4:
+	xorl	%eax, %eax
+.Lp_BB25_6:
+	popq	%rbx
+	.cfi_def_cfa_offset 8
+	.cfi_restore %rbx
+	retq
+.Lp_func_end25:
+	.size	tlsf_malloc_own, .Lp_func_end25-tlsf_malloc_own
+	.cfi_endproc
+	.type	tlsf_malloc_again,@function
+tlsf_malloc_again:
+	.cfi_startproc
+	pushq	%rbx
+	.cfi_def_cfa_offset 16
+	subq	$32, %rsp
+	.cfi_def_cfa_offset 48
+	.cfi_offset %rbx, -16
+	movq	%rdi, %rbx
+	xorps	%xmm0, %xmm0
+	movq	%rsp, %rdx
+	movaps	%xmm0, (%rdx)
+	movq	$0, 16(%rdx)
+	subq	16(%rdi), %rsi
+	addq	$-24, %rsi
+	rolq	$61, %rsi
+	movl	$4294967295, %eax
+	cmpq	%rax, %rsi
+	cmovaeq	%rax, %rsi
+	callq	tlsf_block_at@PLT
+	testl	%eax, %eax
+	jne	.Lp_BB26_1
+	movl	(%rsp), %esi
+	movq	%rbx, %rdi
+	callq	tlsf_release_place@PLT
+	movl	12(%rsp), %esi
+	movl	16(%rbx), %ecx
+	shrl	$3, %ecx
+	andl	$1, %ecx
+	movq	%rbx, %rdi
+	movl	$2, %edx
+	callq	tlsf_allocate_aligned@PLT
+	movq	%rax, %rcx
+	shrq	$32, %rcx
+	jne	.Lp_BB26_1
+	movq	16(%rbx), %rcx
+	leaq	(%rcx,%rax,8), %rax
+	addq	$24, %rax
+	jmp	.Lp_BB26_4
+.Lp_BB26_1:
+	xorl	%eax, %eax
+.Lp_BB26_4:
+	addq	$32, %rsp
+	.cfi_def_cfa_offset 16
+	popq	%rbx
+	.cfi_def_cfa_offset 8
+	retq
+.Lp_func_end26:
+	.size	tlsf_malloc_again, .Lp_func_end26-tlsf_malloc_again
 	.cfi_endproc
 	.type	.L.str,@object
 	.section	.rodata.str1.1,"aMS",@progbits,1

@@ -185035,7 +185035,7 @@ main:
 	.type	.Lstatic.8,@object
 	.section	.rodata..Lstatic.8,"a",@progbits
 .Lstatic.8:
-	.ascii	"0.28.0"
+	.ascii	"0.29.0"
 	.size	.Lstatic.8, 6
 	.type	.Lstatic.9,@object
 	.section	.rodata..Lstatic.9,"a",@progbits
