@@ -445,9 +445,21 @@ TLSF_ANSWER TLSF_CALL void *tlsf_realloc(struct tlsf_heap *heap, void *p, size_t
 TLSF_ANSWER TLSF_CALL void *tlsf_aligned_alloc(struct tlsf_heap *heap, size_t align, size_t len) TLSF_NOEXCEPT TLSF_OF_BYTES(3)
     TLSF_ALIGNED_BY(2);
 
+/* As tlsf_realloc, aligned to `align` too: any power of two, else it is refused. A block that is so aligned stays where there is room for it.
+ * Any other one moves, also where it gets shorter. A null pointer is tlsf_aligned_alloc's.
+ * For an aligned block, up to the heap's own alignment, the call is that of tlsf_realloc. Else tlsf_block_at shows first whether this block
+ * stays. If not, tlsf_aligned_alloc's call gives a block, it is copied here, and tlsf_free's call frees the old one. */
+TLSF_ANSWER TLSF_CALL void *tlsf_aligned_realloc(struct tlsf_heap *heap, void *p, size_t align, size_t len) TLSF_NOEXCEPT TLSF_OF_BYTES(4)
+    TLSF_ALIGNED_BY(3);
+
 /* The bytes from `p` on that the program may use: at least as many as it asked for. It is 0 where no live block's payload begins
  * there. Compilers know of those that were asked for alone: with _FORTIFY_SOURCE, use more by the pointer that tlsf_realloc gives. */
 TLSF_CALL size_t tlsf_usable_size(struct tlsf_heap *heap, const void *p) TLSF_NOEXCEPT;
+
+/* The same from a pointer alone, with no call: it reads the word in front of `p` (docs/LAYOUT.md). So `p` is null, and the answer 0, or
+ * where a live block's payload begins, by pointer or by name, of any heap: nothing else is refused, and nothing looks. Whoever holds the
+ * block may ask, in any thread: only calls about this block write that word. */
+TLSF_SHORT_CALL size_t tlsf_block_size(const void *p) TLSF_NOEXCEPT;
 
 /* The name of the block whose payload begins at `p` goes to `name`. It is for a lane, or to see later whether it is still that
  * block.

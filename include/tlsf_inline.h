@@ -33,6 +33,7 @@
 #ifndef TLSF_ASKED
 #define TLSF_ASKED(payload, len, rounded) ((void)(len))
 #define TLSF_USED(payload, len) ((void)0)
+#define TLSF_LEN_BEFORE(payload, len) TLSF_COPY(len, (const unsigned char *)(payload)-8, 8)
 #endif
 #ifdef TLSF_CHECKED
 #include "tlsf_checked.h"
@@ -117,6 +118,16 @@ TLSF_SHORT_CALL uint64_t *tlsf_base(const struct tlsf_heap *heap) TLSF_NOEXCEPT 
 
 TLSF_SHORT_CALL TLSF_BY_VALUE void *tlsf_at(uint64_t *base, struct tlsf_name name) TLSF_NOEXCEPT {
     return base == TLSF_NULL ? TLSF_NULL : base + name.at + 3;
+}
+
+/* The last word of the header is the payload's length. */
+TLSF_SHORT_CALL size_t tlsf_block_size(const void *p) TLSF_NOEXCEPT {
+    uint64_t len = 0;
+#ifdef TLSF_GNU
+    __asm__("" : "+r"(p)); /* else gcc, which knows of the block's bytes alone, would warn */
+#endif
+    if (p != TLSF_NULL) TLSF_LEN_BEFORE(p, &len);
+    return (size_t)len;
 }
 
 /* A block's header on its way to the cache, while the library looks at its own fields: both are cold in a call that comes rarely. */
@@ -332,6 +343,15 @@ TLSF_BODY void *tlsf_resized_at(struct tlsf_heap *heap, uint32_t at, size_t roun
     return heap->base + at + 3;
 }
 
+/* Moves a live block to one that was given for it; null where none was. */
+TLSF_THIN void *tlsf_moved_to(struct tlsf_heap *heap, const struct tlsf_block_info *it, void *p, void *moved, size_t len) TLSF_NOEXCEPT {
+    if (moved == TLSF_NULL) return TLSF_NULL;
+    TLSF_USED(p, it->len);
+    TLSF_COPY(moved, p, it->len < len ? it->len : len);
+    TLSF_RELEASE_SEEN(heap, it->at);
+    return moved;
+}
+
 /* tlsf_realloc of a block in a heap that isn't plain. One that has enough words for `len`, but not for what that is rounded to, keeps the
  * words that it has. It is a call of its own, so that the usual way needs no frame for what it looks at. */
 TLSF_RARE void *tlsf_realloc_mixed(struct tlsf_heap *heap, void *p, size_t len) TLSF_NOEXCEPT {
@@ -344,12 +364,7 @@ TLSF_RARE void *tlsf_realloc_mixed(struct tlsf_heap *heap, void *p, size_t len) 
     if (tlsf_block_at(heap, at, &it) != TLSF_OK || it.is_live == 0) return tlsf_resized_at(heap, at, rounded, len); /* refused */
     if (8 * (it.size - 3) >= len && 8 * (it.size - 3) < rounded) rounded = 8 * (it.size - 3);
     if (tlsf_has_room(heap, &it, 3 + rounded / 8)) return tlsf_resized_at(heap, at, rounded, len);
-    void *const moved = tlsf_malloc(heap, len);
-    if (moved == TLSF_NULL) return TLSF_NULL;
-    TLSF_USED(p, it.len);
-    TLSF_COPY(moved, p, it.len < len ? it.len : len);
-    TLSF_RELEASE_SEEN(heap, at);
-    return moved;
+    return tlsf_moved_to(heap, &it, p, tlsf_malloc(heap, len), len);
 }
 
 TLSF_CALL void *tlsf_realloc(struct tlsf_heap *heap, void *p, size_t len) TLSF_NOEXCEPT {
@@ -358,6 +373,27 @@ TLSF_CALL void *tlsf_realloc(struct tlsf_heap *heap, void *p, size_t len) TLSF_N
     if (len == 0 || len > TLSF_LONGEST) return TLSF_NULL;
     if (!tlsf_is_plain(heap)) return tlsf_realloc_mixed(heap, p, len);
     return tlsf_resized_at(heap, tlsf_place_of(heap, p), tlsf_rounded(len), len);
+}
+
+/* tlsf_aligned_realloc where tlsf_realloc's block might be aligned to less. It keeps words as tlsf_realloc_mixed does. */
+TLSF_BODY void *tlsf_realloc_aligned(struct tlsf_heap *heap, void *p, size_t align, size_t len) TLSF_NOEXCEPT {
+    struct tlsf_block_info it = {0, 0, 0, 0, 0};
+    const uint32_t at = tlsf_place_of(heap, p);
+    size_t rounded = tlsf_own_rounded(heap, len);
+    if (TLSF_IS_DAMAGED(heap, "tlsf_resize_place", at)) return TLSF_NULL;
+    if (tlsf_block_at(heap, at, &it) != TLSF_OK || it.is_live == 0) return tlsf_resized_at(heap, at, rounded, len); /* refused */
+    if (8 * (it.size - 3) >= len && 8 * (it.size - 3) < rounded) rounded = 8 * (it.size - 3);
+    if (((uintptr_t)p & (align - 1)) == 0 && tlsf_has_room(heap, &it, 3 + rounded / 8)) return tlsf_resized_at(heap, at, rounded, len);
+    return tlsf_moved_to(heap, &it, p, tlsf_aligned_alloc(heap, align, len), len);
+}
+
+TLSF_CALL void *tlsf_aligned_realloc(struct tlsf_heap *heap, void *p, size_t align, size_t len) TLSF_NOEXCEPT {
+    if (p == TLSF_NULL) return tlsf_aligned_alloc(heap, align, len);
+    if (align == 0 || (align & (align - 1)) != 0) return TLSF_NULL;
+    if (len == 0) tlsf_free(heap, p);
+    if (len == 0 || len > TLSF_LONGEST) return TLSF_NULL;
+    if (align <= tlsf_align_of(heap) && ((uintptr_t)p & (align - 1)) == 0) return tlsf_realloc(heap, p, len);
+    return tlsf_realloc_aligned(heap, p, align, len);
 }
 
 TLSF_CALL uint32_t tlsf_allocate_at(struct tlsf_heap *heap, size_t len, size_t align, uint32_t flags, struct tlsf_name *name,

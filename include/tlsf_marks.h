@@ -84,6 +84,21 @@ static inline void tlsf_mark_filled(void *from, size_t n) TLSF_NOEXCEPT {
 #define TLSF_ASKED(payload, len, rounded) tlsf_mark_dead(payload, len, (rounded) - (len))
 #define TLSF_USED(payload, len) tlsf_mark_live(payload, len)
 
+/* The last word of a live block's header, which the program reads by tlsf_block_size. Who asks for the length may use it. */
+#ifdef TLSF_ASAN
+__attribute__((noinline, unused, no_sanitize_address))
+#else
+__attribute__((unused))
+#endif
+static void
+tlsf_mark_len(const void *payload, uint64_t *len) TLSF_NOEXCEPT {
+    TLSF_BEGIN_CALL;
+    *len = *(const volatile uint64_t *)(const void *)((const char *)payload - 8);
+    TLSF_END_CALL;
+    tlsf_mark_live((void *)(uintptr_t)payload, (size_t)*len);
+}
+#define TLSF_LEN_BEFORE(payload, len) tlsf_mark_len(payload, len)
+
 static inline void *tlsf_mark_at(const struct tlsf_heap *heap, uint32_t at) TLSF_NOEXCEPT { return heap->base + at + 3; }
 
 #ifdef TLSF_ASAN

@@ -422,6 +422,8 @@ static void refuse_each(void *p, struct tlsf_name name, uint32_t at) {
         wants("no pointer", tlsf_realloc(heap, p, lens[k]) == NULL, 1);
         refused(lens[k] ? "tlsf_resize_place" : "tlsf_release_place", told.answer, TLSF_DAMAGED, at);
     }
+    wants("no aligned pointer", tlsf_aligned_realloc(heap, p, 4096, 60) == NULL, 1);
+    refused("tlsf_resize_place", told.answer, TLSF_DAMAGED, at);
     wants("no size", tlsf_usable_size(heap, p), 0);
     refused("tlsf_place", told.answer, TLSF_DAMAGED, at);
     refused("tlsf_place", tlsf_name_at(heap, p, &same), TLSF_DAMAGED, at);
@@ -450,6 +452,8 @@ static void tell_of_freed(void *p) {
     keep();
     refused("tlsf_release_place", tlsf_free(heap, p), TLSF_STALE, at);
     wants("no pointer", tlsf_realloc(heap, p, 100) == NULL, 1);
+    refused("tlsf_resize_place", told.answer, TLSF_STALE, at);
+    wants("no aligned pointer", tlsf_aligned_realloc(heap, p, 4096, 100) == NULL, 1);
     refused("tlsf_resize_place", told.answer, TLSF_STALE, at);
     refused(way == MAGAZINE ? "tlsf_cache_free" : "tlsf_release_place", end(p), TLSF_STALE, at);
     wants("no pointer", change(p, 100) == NULL, 1);

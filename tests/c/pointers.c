@@ -59,6 +59,7 @@ static void take_in(struct model *m, struct block *b, void *p, size_t len, size_
     wants("alignment", (uintptr_t)p % align, 0);
     wants("in the region", offset >= 8 * HEADER && offset + len <= 8 * (size_t)WORDS, 1);
     wants("usable size", tlsf_usable_size(&m->heap, p) >= len, 1);
+    wants("the same from the pointer", tlsf_block_size(p), tlsf_usable_size(&m->heap, p));
     for (int k = 0; k < MOST; k++)
         if (m->gone[k] == p) m->gone[k] = NULL;
     b->p = p;
@@ -124,16 +125,17 @@ static void give(struct model *m, struct block *b) {
 }
 
 static void resize(struct model *m, struct block *b) {
-    const size_t len = any_len() + 1, had = b->len;
-    unsigned char *p = tlsf_realloc(&m->heap, b->p, len);
+    const size_t len = any_len() + 1, had = b->len, own = align_of(own_align), align = below(3) ? 0 : (size_t)1 << below(15);
+    unsigned char *p = align ? tlsf_aligned_realloc(&m->heap, b->p, align, len) : tlsf_realloc(&m->heap, b->p, len);
     if (!p) {
-        wants("a block that isn't longer", len > had, 1);
-        (void)is_served(m, p, len, with_names ? 32 + align_of(own_align) : 0);
+        wants("a block that isn't longer, and aligned", len > had || (align && (uintptr_t)b->p % align), 1);
+        (void)is_served(m, p, len, with_names || align ? 32 + (align > own ? align : own) : 0);
         return;
     }
     counts[2] += p != b->p;
-    if (p != b->p) take_in(m, b, p, len, align_of(own_align));
-    wants("usable size", tlsf_usable_size(&m->heap, p) >= len, 1);
+    if (p != b->p) take_in(m, b, p, len, align > own ? align : own);
+    if (align) wants("an alignment", (uintptr_t)p % align, 0);
+    wants("usable size", tlsf_usable_size(&m->heap, p) >= len && tlsf_block_size(p) == tlsf_usable_size(&m->heap, p), 1);
     b->len = len;
     check_bytes(b, had < len ? had : len);
     fill(b);
@@ -147,7 +149,8 @@ static void end(struct model *m, struct block *b) {
         wants("release by name", tlsf_release(&m->heap, name), TLSF_OK);
         wants("release again", tlsf_release(&m->heap, name), TLSF_STALE);
     } else if (way == 1) {
-        wants("realloc to nothing", tlsf_realloc(&m->heap, b->p, 0) == NULL, 1);
+        wants("realloc to nothing",
+              below(2) ? tlsf_realloc(&m->heap, b->p, 0) == NULL : tlsf_aligned_realloc(&m->heap, b->p, 32, 0) == NULL, 1);
     } else {
         wants("free", tlsf_free(&m->heap, b->p), TLSF_OK);
     }
@@ -187,6 +190,7 @@ static void refuse_wild(struct model *m, struct model *other, struct block *b) {
     wants("free of a wild pointer", tlsf_free(&m->heap, p), TLSF_STALE);
     wants("its usable size", tlsf_usable_size(&m->heap, p), 0);
     wants("its realloc", tlsf_realloc(&m->heap, p, 40) == NULL, 1);
+    wants("its aligned realloc", tlsf_aligned_realloc(&m->heap, p, (size_t)1 << below(13), 40) == NULL, 1);
     wants("its name", tlsf_name_at(&m->heap, p, &name), TLSF_STALE);
     wants("the name as before", name.heap == 9 && name.at == 9 && name.serial == 9, 1);
 }
@@ -204,6 +208,12 @@ static void refuse_sizes(struct model *m, void *live) {
     wants("free of null", tlsf_free(&m->heap, NULL), TLSF_OK);
     wants("malloc", tlsf_malloc(&m->heap, len) == NULL, 1);
     wants("realloc", tlsf_realloc(&m->heap, live, len) == NULL, 1);
+    wants("aligned_realloc", !tlsf_aligned_realloc(&m->heap, live, 64, len) && !tlsf_aligned_realloc(&m->heap, NULL, 64, len), 1);
+    wants("of no alignment",
+          !tlsf_aligned_realloc(&m->heap, live, 0, 0) && !tlsf_aligned_realloc(&m->heap, live, 24, 0) &&
+              !tlsf_aligned_realloc(&m->heap, live, 12, 8),
+          1);
+    wants("it stays", live == NULL || tlsf_usable_size(&m->heap, live) > 0, 1);
     wants("calloc",
           tlsf_calloc(&m->heap, len, len) == NULL && tlsf_calloc(&m->heap, len, 1) == NULL && tlsf_calloc(&m->heap, 8, len / 8 + 1) == NULL,
           1);
@@ -351,6 +361,44 @@ static void any_alignment(uint32_t level) {
     wants("close", tlsf_close(&heap), TLSF_OK);
 }
 
+/* A block that is aligned stays where there is room, and any other one moves. */
+static void aligned_reallocs(uint32_t level) {
+    struct tlsf_heap heap = TLSF_CLOSED;
+    struct tlsf_name name;
+    unsigned char *q;
+    heap.align = 16;
+    wants("no bytes of null", tlsf_block_size(NULL), 0);
+    wants("open", tlsf_open(&heap, level, 1, 4000), TLSF_OK);
+    unsigned char *p = tlsf_aligned_realloc(&heap, NULL, 256, 100);
+    wants("null asks for a block", p != NULL && (uintptr_t)p % 256 == 0, 1);
+    memset(p, 3, 100);
+    for (size_t len = 90; len < 3000; len += 300) {
+        wants("aligned, it stays", tlsf_aligned_realloc(&heap, p, 256, len) == p && tlsf_aligned_realloc(&heap, p, 8, len + 9) == p, 1);
+        wants("its bytes", tlsf_block_size(p) >= len + 9 && tlsf_block_size(p) < len + 9 + 16, 1);
+    }
+    wants("shorter too", tlsf_aligned_realloc(&heap, p, 256, 90) == p && tlsf_block_size(p) < 110, 1);
+    q = tlsf_malloc(&heap, 40);
+    while ((uintptr_t)q % 512 == 0) q = tlsf_malloc(&heap, 40);
+    memset(q, 7, 40);
+    p = tlsf_aligned_realloc(&heap, q, 512, 30);
+    wants("else it moves, also where it is shorter", p != NULL && p != q && (uintptr_t)p % 512 == 0, 1);
+    for (int k = 0; k < 30; k++) wants("a byte that moved", p[k], 7);
+    wants("its old block is free", tlsf_free(&heap, q), TLSF_STALE);
+    wants("a block by name", tlsf_allocate(&heap, 16, &name), TLSF_OK); /* of five words: the next begins at an odd place */
+    wants("another", tlsf_allocate(&heap, 24, &name), TLSF_OK);
+    q = tlsf_payload(&heap, name, NULL);
+    if ((uintptr_t)q % 16 == 0) wants("another", tlsf_allocate(&heap, 16, &name) + tlsf_allocate(&heap, 24, &name), TLSF_OK);
+    q = tlsf_payload(&heap, name, NULL);
+    wants("aligned to 8", (uintptr_t)q % 16, 8);
+    wants("it stays so", tlsf_aligned_realloc(&heap, q, 8, 20) == q, 1);
+    q = tlsf_aligned_realloc(&heap, q, 16, 20);
+    wants("and moves to be aligned to more", q != NULL && (uintptr_t)q % 16 == 0, 1);
+    wants("no room", tlsf_aligned_realloc(&heap, p, 1u << 20, 30) == NULL && tlsf_block_size(p) >= 30, 1);
+    wants("to nothing", tlsf_aligned_realloc(&heap, p, 512, 0) == NULL && tlsf_free(&heap, p) == TLSF_STALE, 1);
+    wants("close", tlsf_close(&heap), TLSF_OK);
+    wants("closed", tlsf_aligned_realloc(&heap, NULL, 64, 8) == NULL && tlsf_aligned_realloc(&heap, p, 64, 8) == NULL, 1);
+}
+
 /* Blocks of `len` bytes, as many as the heap was sized for, by each call in turn. */
 static void serves(uint32_t level, uint32_t blocks, size_t len, size_t align) {
     struct tlsf_heap heap = TLSF_CLOSED;
@@ -416,6 +464,7 @@ int main(int argc, char **argv) {
     lacks_one_word();
     odd_blocks_are_noted();
     any_alignment(level);
+    aligned_reallocs(level);
     words_for_any_call(level);
     names_to_pointers(level);
     open_all(level);

@@ -31,7 +31,9 @@ extern "C" {
     #[must_use] pub fn tlsf_calloc(heap: *mut tlsf_heap, count: usize, each: usize) -> *mut c_void;
     #[must_use] pub fn tlsf_realloc(heap: *mut tlsf_heap, p: *mut c_void, len: usize) -> *mut c_void;
     #[must_use] pub fn tlsf_aligned_alloc(heap: *mut tlsf_heap, align: usize, len: usize) -> *mut c_void;
+    #[must_use] pub fn tlsf_aligned_realloc(heap: *mut tlsf_heap, p: *mut c_void, align: usize, len: usize) -> *mut c_void;
     pub fn tlsf_usable_size(heap: *mut tlsf_heap, p: *const c_void) -> usize;
+    pub fn tlsf_block_size(p: *const c_void) -> usize;
     #[must_use] pub fn tlsf_name_at(heap: *mut tlsf_heap, p: *const c_void, name: *mut tlsf_name) -> u32;
     #[must_use] pub fn tlsf_allocate_at(heap: *mut tlsf_heap, len: usize, align: usize, flags: u32, name: *mut tlsf_name, payload: *mut *mut c_void) -> u32;
     #[must_use] pub fn tlsf_allocate(heap: *mut tlsf_heap, len: usize, name: *mut tlsf_name) -> u32;
