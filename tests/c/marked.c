@@ -72,6 +72,17 @@ static void used_after_move(void) {
     if (tlsf_realloc(&heap, p, 4000) != p) write_at(p);
 }
 
+static void used_after_alignment(void) {
+    unsigned char *p = get(40);
+    while ((uintptr_t)p % 1024 == 0) p = get(40);
+    if (tlsf_aligned_realloc(&heap, p, 1024, 40) != p) read_at(p);
+}
+
+static void overrun_after_alignment(void) {
+    unsigned char *p = tlsf_aligned_realloc(&heap, get(40), 1024, 40);
+    if (p) write_at(p + 40);
+}
+
 static void used_behind_end(void) {
     unsigned char *p = get(400);
     memset(p, 0, 400);
@@ -164,6 +175,8 @@ static void right_by_pointer(void) {
     memset(p, 2, 5000);
     p = tlsf_realloc(&heap, p, 100);
     if (p) memset(p, 3, tlsf_usable_size(&heap, p));
+    p = tlsf_aligned_realloc(&heap, p, 1024, 90);
+    if (p) read_at(p + 89), memset(p, 4, tlsf_block_size(p));
     tlsf_free(&heap, p);
     tlsf_free(&heap, q);
 }
@@ -222,6 +235,8 @@ static const struct {
     {"used_after_free", used_after_free},
     {"used_after_release", used_after_release},
     {"used_after_move", used_after_move},
+    {"used_after_alignment", used_after_alignment},
+    {"overrun_after_alignment", overrun_after_alignment},
     {"used_behind_end", used_behind_end},
     {"used_after_resize", used_after_resize},
     {"used_after_drain", used_after_drain},
