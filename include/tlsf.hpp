@@ -14,6 +14,10 @@
 #error "tlsf.hpp is for C++17 and later"
 #endif
 
+// Behind a tlsf.h of compat/ some names of peachanchor.h are macros, which lead elsewhere.
+#ifdef TLSF_COMPAT
+#error "tlsf.hpp comes before a tlsf.h of compat/"
+#endif
 #include "peachanchor.h"
 
 #include <atomic>

@@ -44,6 +44,10 @@
 #ifndef TLSF_CACHE_H
 #define TLSF_CACHE_H
 
+/* Behind a tlsf.h of compat/ some names of peachanchor.h are macros, which lead elsewhere. */
+#ifdef TLSF_COMPAT
+#error "tlsf_cache.h comes before a tlsf.h of compat/"
+#endif
 #include "peachanchor.h"
 
 #ifndef TLSF_GNU

@@ -32,6 +32,10 @@
 #ifndef TLSF_LOCKED_H
 #define TLSF_LOCKED_H
 
+/* Behind a tlsf.h of compat/ some names of peachanchor.h are macros, which lead elsewhere. */
+#ifdef TLSF_COMPAT
+#error "tlsf_locked.h comes before a tlsf.h of compat/"
+#endif
 #include "peachanchor.h"
 
 #include <pthread.h>

@@ -34,9 +34,9 @@
 #ifndef TLSF_PARTS_H
 #define TLSF_PARTS_H
 
-/* The names of some calls are macros behind include/compat: they would lead elsewhere. */
+/* Behind a tlsf.h of compat/ some names of peachanchor.h are macros, which lead elsewhere. */
 #ifdef TLSF_COMPAT
-#error "tlsf_parts.h comes before a tlsf.h of compat/, which includes it"
+#error "tlsf_parts.h comes before a tlsf.h of compat/"
 #endif
 #include "peachanchor.h"
 
