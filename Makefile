@@ -119,7 +119,9 @@ install: all
 	@case '$(PREFIX)' in /*) ;; *) echo "PREFIX is '$(PREFIX)', and has to begin with /" >&2; exit 1 ;; esac
 	@$(INSTALL) -d '$(DESTDIR)$(includedir)' '$(DESTDIR)$(libdir)' '$(DESTDIR)$(datadir)/gdb' '$(DESTDIR)$(docdir)' || \
 		{ echo "$(DESTDIR)$(PREFIX) can't be written: 'make install PREFIX=/FOLDER' takes a folder of yours, and sudo any" >&2; exit 1; }
-	$(INSTALL) -m 644 include/* '$(DESTDIR)$(includedir)'
+	$(INSTALL) -m 644 include/*.h include/*.hpp '$(DESTDIR)$(includedir)'
+	for it in compat/mattconte compat/tlsf24; do $(INSTALL) -d '$(DESTDIR)$(includedir)'/$$it && \
+		$(INSTALL) -m 644 include/$$it/tlsf.h '$(DESTDIR)$(includedir)'/$$it || exit 1; done
 	$(INSTALL) -m 644 $(ARCHIVES) '$(DESTDIR)$(libdir)'
 	for kind in "" _nomalloc; do ln -sf libpeachanchor$$kind.a '$(DESTDIR)$(libdir)'/libtlsf$$kind.a || exit 1; done
 	[ -z '$(SHARED)' ] || { $(INSTALL) -m 755 $(SHARED) '$(DESTDIR)$(libdir)' && \
@@ -137,7 +139,7 @@ install: all
 # The files that an install puts there, and folders of its own that then are empty.
 uninstall:
 	@rm -rf $(BUILD)/root; $(MAKE) -s install DESTDIR='$(BUILD)/root' > $(BUILD)/log
-	@(cd $(BUILD)/root && find . ! -type d && find . -depth -type d '(' -name peachanchor -o -name tlsf ')') > $(BUILD)/there; \
+	@(cd $(BUILD)/root && find . ! -type d && find . -depth -type d '(' -name peachanchor -o -name tlsf -o -path '.$(includedir)/compat*' ')') > $(BUILD)/there; \
 	status=0; while read -r it; do \
 		it='$(DESTDIR)'$${it#.}; if [ -d "$$it" ]; then rmdir "$$it" || :; \
 		elif [ -e "$$it" ] || [ -h "$$it" ]; then rm -f "$$it" && echo "rm $$it" || status=1; fi; \
