@@ -286,9 +286,16 @@ TLSF_BODY struct tlsf_part *tlsf_parts_of(const struct tlsf_parts *parts, const 
 
 /* --- By pointer ------------------------------------------------------------------------------------------------------- */
 
+/* tlsf_malloc. Aligned to 8, no block is misaligned: then this is its call with no look. */
+TLSF_BODY void *tlsf_parts_ask(struct tlsf_heap *heap, size_t len) TLSF_NOEXCEPT {
+    if (heap->align != 8 || len > TLSF_LONGEST) return tlsf_malloc(heap, len);
+    const struct tlsf_placed it = tlsf_allocate_place(heap, tlsf_rounded_to(8, len));
+    return tlsf_asked_at(heap, it.answer, it.at, len);
+}
+
 TLSF_BODY void *tlsf_parts_malloc(struct tlsf_parts *parts, size_t len) TLSF_NOEXCEPT {
     void *p = TLSF_NULL;
-    for (struct tlsf_part *it = parts->first; it != TLSF_NULL && p == TLSF_NULL; it = it->next) p = tlsf_malloc(&it->heap, len);
+    for (struct tlsf_part *it = parts->first; it != TLSF_NULL && p == TLSF_NULL; it = it->next) p = tlsf_parts_ask(&it->heap, len);
     return p;
 }
 

@@ -371,6 +371,7 @@ static void closed_ones(void) {
 /* Each alignment of memory has room for so many words in so many bytes, and none fewer at the worst. */
 static void bytes_that_it_takes(void) {
     static _Alignas(64) unsigned char few[20000];
+    const volatile size_t too_long = SIZE_MAX; /* in plain sight gcc would warn of it */
     struct tlsf_parts pool = TLSF_PARTS_CLOSED;
     wants("no such region", tlsf_parts_bytes(4, 16, (1u << 20) + 1) + tlsf_parts_bytes(5, 16, (1u << 24) + 1) + tlsf_parts_bytes(3, 16, 9),
           0);
@@ -386,6 +387,7 @@ static void bytes_that_it_takes(void) {
                 wants("its block", tlsf_block_at(&pool.first->heap, 0, &whole), TLSF_OK);
                 wants("its words", whole.size >= 1000 || lacks, 1);
                 is_tight |= whole.size < 1000;
+                for (size_t k = 0; k < 40; k++) wants("too long", tlsf_parts_malloc(&pool, too_long - k) == NULL, 1);
                 void *const p = tlsf_parts_malloc(&pool, 1);
                 wants("aligned", p != NULL && (uintptr_t)p % align == 0 && tlsf_parts_close(&pool) == TLSF_OK, 1);
             }
