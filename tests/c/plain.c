@@ -1,7 +1,7 @@
 /* A plain heap and a plain lane that answer as peachanchor.h says, by first fit over a table of blocks: what the tests beside it are
  * tried on, since one that passes on each library shows nothing. With a number from 1 to 14, 25, 26, 35 or 36 in the
- * environment's WRONG one thing in it is wrong, and random.c has to notice; from 15 to 24 or from 27 to 30, and pointers.c has
- * to; from 31 to 34, and lengths.c has to. It is no real-time heap, and its lanes are for one thread. */
+ * environment's WRONG one thing in it is wrong, and random.c has to notice; from 15 to 24, from 27 to 30 or 37, and pointers.c
+ * has to; from 31 to 34, and lengths.c has to. It is no real-time heap, and its lanes are for one thread. */
 #include "peachanchor.h"
 #undef tlsf_release /* the call itself */
 
@@ -161,6 +161,7 @@ static uint32_t give(struct plain *p, uint32_t k, uint32_t gap, uint32_t words, 
     cut(p, k, words);
     p->pieces[k].is_live = true;
     p->pieces[k].len = len;
+    p->region[p->pieces[k].at + 2] = len; /* as docs/LAYOUT.md has it, for tlsf_block_size */
     p->pieces[k].serial = ++p->tick;
     return p->pieces[k].at;
 }
@@ -237,6 +238,7 @@ static uint32_t resize(struct plain *p, struct piece *found, uint32_t len) {
         remove_piece(p, k + 1);
     }
     found->len = len;
+    if (wrong != 37) p->region[found->at + 2] = len;
     cut(p, k, want(len));
     merge(p);
     return counted(p, TLSF_OK, 0);
