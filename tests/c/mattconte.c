@@ -64,8 +64,9 @@ static void opens(void) {
     memset(memory, 0xa5, sizeof memory);
     for (size_t bytes = 0; bytes < tlsf_size(); bytes++) wants("too short for itself", tlsf_create_with_pool(memory, bytes) == NULL, 1);
     for (size_t k = 0; k < sizeof memory; k++) wants("nothing is written", memory[k], 0xa5);
-    const tlsf_t none = new_pool(tlsf_size() + 100);
+    wants("too short for a pool", tlsf_create_with_pool(memory, tlsf_size() + 100) == NULL, 1);
     for (size_t k = tlsf_size() + 100; k < sizeof memory; k++) wants("nothing behind", memory[k], 0xa5);
+    const tlsf_t none = tlsf_create(memory);
     wants("it has no pool", tlsf_get_pool(none) == NULL && tlsf_malloc(none, 1) == NULL && tlsf_check(none) == 0, 1);
     wants("too short for a pool", tlsf_add_pool(none, memory + POOL, 100) == NULL, 1);
     wants("misaligned", tlsf_add_pool(none, memory + POOL + 1, POOL) == NULL, 1);
@@ -346,7 +347,7 @@ static void fills(void) {
     }
     for (size_t bytes = tlsf_size(); bytes < POOL; bytes += 8) {
         const tlsf_t tlsf = tlsf_create_with_pool(memory, bytes);
-        if (!tlsf_malloc(tlsf, 1)) continue;
+        if (tlsf == NULL || !tlsf_malloc(tlsf, 1)) continue;
         wants("the least pool for a block", bytes < 3000, 1);
         tlsf_destroy(tlsf);
         break;
