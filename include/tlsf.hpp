@@ -365,6 +365,9 @@ public:
     [[nodiscard]] void *aligned_alloc(std::size_t align, std::size_t len) noexcept {
         return state_ ? tlsf_aligned_alloc(handle(), align, len) : nullptr;
     }
+    [[nodiscard]] void *aligned_realloc(void *p, std::size_t align, std::size_t len) noexcept {
+        return state_ ? tlsf_aligned_realloc(handle(), p, align, len) : nullptr;
+    }
     std::uint32_t free(void *p) noexcept { return state_ ? tlsf_free(handle(), p) : detail::closed; }
     std::size_t usable_size(const void *p) const noexcept { return state_ ? tlsf_usable_size(handle(), p) : 0; }
     [[nodiscard]] std::uint32_t name_at(const void *p, tlsf_name &name) const noexcept {

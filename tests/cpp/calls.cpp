@@ -70,9 +70,11 @@ void all_by_pointer(tlsf::heap &heap) {
     p = static_cast<unsigned char *>(heap.realloc(p, 400));
     wants("realloc", p && p[39] == 7, 1);
     wants("too far", heap.calloc(far, 2) == nullptr && heap.realloc(p, far) == nullptr && heap.aligned_alloc(64, far) == nullptr, 1);
-    void *volatile const wide = heap.aligned_alloc(2048, 100);
+    void *volatile wide = heap.aligned_alloc(2048, 100);
     wants("aligned_alloc", wide && reinterpret_cast<std::uintptr_t>(wide) % 2048 == 0, 1);
-    wants("of no alignment", heap.aligned_alloc(48, 8) == nullptr, 1);
+    wants("of no alignment", heap.aligned_alloc(48, 8) == nullptr && heap.aligned_realloc(wide, 48, 8) == nullptr, 1);
+    wide = heap.aligned_realloc(wide, 4096, 200);
+    wants("aligned_realloc", wide && reinterpret_cast<std::uintptr_t>(wide) % 4096 == 0 && tlsf_block_size(wide) >= 200, 1);
     wants("name_at", looked_at.name_at(wide, name), TLSF_OK);
     wants("its payload", looked_at.payload(name) == wide && tlsf_at(looked_at.base(), name) == wide, 1);
     wants("free", heap.free(p), TLSF_OK);
@@ -173,7 +175,7 @@ void closed() {
     wants("usable_size", looked_at.usable_size(&byte), 0);
     wants("calloc", heap.calloc(1, 8) == nullptr, 1);
     wants("realloc", heap.realloc(nullptr, 8) == nullptr && heap.realloc(&byte, 8) == nullptr, 1);
-    wants("aligned_alloc", heap.aligned_alloc(16, 8) == nullptr, 1);
+    wants("aligned_alloc", heap.aligned_alloc(16, 8) == nullptr && heap.aligned_realloc(nullptr, 16, 8) == nullptr, 1);
     wants("name_at", looked_at.name_at(&byte, taken), TLSF_IS_CLOSED);
     wants("allocate_at", heap.allocate_at(8, 16, 0, taken, at), TLSF_IS_CLOSED);
     wants("base", looked_at.base() == nullptr && at == nullptr && taken.serial == 0, 1);
