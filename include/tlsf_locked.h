@@ -99,6 +99,7 @@ TLSF_ANSWER static inline void *tlsf_locked_malloc(struct tlsf_locked *locked, s
 TLSF_ANSWER static inline void *tlsf_locked_calloc(struct tlsf_locked *locked, size_t count, size_t each) TLSF_NOEXCEPT;
 TLSF_ANSWER static inline void *tlsf_locked_realloc(struct tlsf_locked *locked, void *p, size_t len) TLSF_NOEXCEPT;
 TLSF_ANSWER static inline void *tlsf_locked_aligned_alloc(struct tlsf_locked *locked, size_t align, size_t len) TLSF_NOEXCEPT;
+TLSF_ANSWER static inline void *tlsf_locked_aligned_realloc(struct tlsf_locked *locked, void *p, size_t align, size_t len) TLSF_NOEXCEPT;
 static inline uint32_t tlsf_locked_free(struct tlsf_locked *locked, void *p) TLSF_NOEXCEPT;
 static inline size_t tlsf_locked_usable_size(struct tlsf_locked *locked, const void *p) TLSF_NOEXCEPT;
 
@@ -229,6 +230,19 @@ static inline void *tlsf_locked_realloc(struct tlsf_locked *locked, void *p, siz
     struct tlsf_heap *const heap = tlsf_locked_enter(locked);
     if (heap == TLSF_NULL) return TLSF_NULL;
     void *const changed = tlsf_realloc(heap, p, len);
+    tlsf_locked_leave(locked);
+    return changed;
+}
+
+static inline void *tlsf_locked_aligned_realloc(struct tlsf_locked *locked, void *p, size_t align, size_t len) TLSF_NOEXCEPT {
+    if (p == TLSF_NULL) return tlsf_locked_aligned_alloc(locked, align, len);
+    if (len == 0) {
+        if (align != 0 && (align & (align - 1)) == 0) tlsf_locked_free(locked, p);
+        return TLSF_NULL;
+    }
+    struct tlsf_heap *const heap = tlsf_locked_enter(locked);
+    if (heap == TLSF_NULL) return TLSF_NULL;
+    void *const changed = tlsf_aligned_realloc(heap, p, align, len);
     tlsf_locked_leave(locked);
     return changed;
 }

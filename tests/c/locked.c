@@ -204,6 +204,7 @@ static void *asked(uint32_t way, size_t len, size_t align, void **twin) {
     case 0: return *twin = tlsf_aligned_alloc(&plain, align, len), tlsf_locked_aligned_alloc(&locked, align, len);
     case 1: return *twin = tlsf_calloc(&plain, len, 1), tlsf_locked_calloc(&locked, len, 1);
     case 2: return *twin = tlsf_realloc(&plain, NULL, len), tlsf_locked_realloc(&locked, NULL, len);
+    case 3: return *twin = tlsf_aligned_realloc(&plain, NULL, align, len), tlsf_locked_aligned_realloc(&locked, NULL, align, len);
     default: return *twin = tlsf_malloc(&plain, len), tlsf_locked_malloc(&locked, len);
     }
 }
@@ -237,9 +238,10 @@ static void give(struct block *b) {
 
 static void leave(struct block *b) {
     const bool by_name = b->is_named && below(2);
-    const bool by_realloc = !by_name && below(4) == 0;
+    const bool by_realloc = !by_name && below(4) == 0, is_aligned = below(2);
     locks = 0;
     if (by_name) wants("release", tlsf_locked_release(&locked, b->name), TLSF_OK);
+    else if (by_realloc && is_aligned) wants("to nothing", tlsf_locked_aligned_realloc(&locked, b->p, 64, 0) == NULL, true);
     else if (by_realloc) wants("to nothing", tlsf_locked_realloc(&locked, b->p, 0) == NULL, true);
     else wants("free", tlsf_locked_free(&locked, b->p), TLSF_OK);
     wants_locks("a return", 1);
@@ -253,8 +255,11 @@ static void leave(struct block *b) {
 
 static void resize(struct block *b) {
     const size_t len = 1 + below(LONGEST), had = b->len;
+    const size_t align = below(3) ? 0 : (size_t)1 << below(14);
+    wants("of no alignment", !tlsf_locked_aligned_realloc(&locked, b->p, 0, 0) && !tlsf_locked_aligned_realloc(&locked, b->p, 24, 0), true);
     locks = 0;
-    unsigned char *const p = tlsf_locked_realloc(&locked, b->p, len), *const twin = tlsf_realloc(&plain, b->twin, len);
+    unsigned char *const p = align ? tlsf_locked_aligned_realloc(&locked, b->p, align, len) : tlsf_locked_realloc(&locked, b->p, len);
+    unsigned char *const twin = align ? tlsf_aligned_realloc(&plain, b->twin, align, len) : tlsf_realloc(&plain, b->twin, len);
     wants_locks("a resize", 1);
     wants_twin(p, twin);
     counts[2] += p != NULL && p != b->p;
