@@ -53,7 +53,7 @@ static void sizes(void) {
     wants("small", tlsf_size() <= 64 && tlsf_size() >= sizeof(struct tlsf_parts), 1);
     wants("align", tlsf_align_size(), TLSF_COMPAT_ALIGN);
     wants("the least block", tlsf_block_size_min(), TLSF_COMPAT_ALIGN == 64 ? 40 : 8);
-    wants("the longest", tlsf_block_size_max(), ((size_t)1 << 27) - 24);
+    wants("the longest", tlsf_block_size_max(), ((size_t)1 << (TLSF_COMPAT_LEVEL == 4 ? 23 : 27)) - 24);
     wants("overhead", tlsf_alloc_overhead(), 24);
 }
 
