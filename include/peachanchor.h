@@ -445,8 +445,8 @@ TLSF_ANSWER TLSF_CALL void *tlsf_realloc(struct tlsf_heap *heap, void *p, size_t
 TLSF_ANSWER TLSF_CALL void *tlsf_aligned_alloc(struct tlsf_heap *heap, size_t align, size_t len) TLSF_NOEXCEPT TLSF_OF_BYTES(3)
     TLSF_ALIGNED_BY(2);
 
-/* As tlsf_realloc, aligned to `align` too: any power of two, else it is refused. A block that is so aligned stays where there is room for it.
- * Any other one moves, also where it gets shorter. A null pointer is tlsf_aligned_alloc's.
+/* As tlsf_realloc, aligned to `align` too: any power of two, else it is refused. A block that is so aligned stays where there is room for
+ * it. Any other one moves, also where it gets shorter. A null pointer is tlsf_aligned_alloc's.
  * For an aligned block, up to the heap's own alignment, the call is that of tlsf_realloc. Else tlsf_block_at shows first whether this block
  * stays. If not, tlsf_aligned_alloc's call gives a block, it is copied here, and tlsf_free's call frees the old one. */
 TLSF_ANSWER TLSF_CALL void *tlsf_aligned_realloc(struct tlsf_heap *heap, void *p, size_t align, size_t len) TLSF_NOEXCEPT TLSF_OF_BYTES(4)

@@ -333,6 +333,34 @@ static void pools(void) {
     tlsf_destroy(tlsf);
 }
 
+/* A walker that frees each block, or each second or third one. It is called for each block once. */
+struct sweep {
+    tlsf_t tlsf;
+    uint32_t seen, step;
+};
+
+static void sweep(void *ptr, size_t size, int used, void *user) {
+    struct sweep *const it = (struct sweep *)user;
+    (void)size;
+    if (used && ++it->seen % it->step == 0) tlsf_free(it->tlsf, ptr);
+}
+
+static void walker_frees(void) {
+    for (uint32_t step = 1; step < 4; step++) {
+        struct sweep it = {new_pool(POOL), 0, step};
+        void *p[40];
+        for (int k = 0; k < 40; k++) p[k] = tlsf_malloc(it.tlsf, 1 + below(300));
+        for (int k = 0; k < 40; k += 5) tlsf_free(it.tlsf, p[k]);
+        for (uint32_t round = 0, left = 32; round < 6; round++, left -= left / step) {
+            it.seen = 0;
+            tlsf_walk_pool(tlsf_get_pool(it.tlsf), sweep, &it);
+            wants("each live block is seen once", it.seen, left);
+        }
+        untold("each was live");
+        tlsf_destroy(it.tlsf);
+    }
+}
+
 /* --- Room ------------------------------------------------------------------------------------------------------------- */
 
 static void fills(void) {
@@ -364,6 +392,7 @@ int main(int argc, char **argv) {
     errors();
     damage();
     pools();
+    walker_frees();
     by_chance(calls);
     if (argc > 3) fills();
     else printf("%ld given, %ld refused, %ld moved\n", counts[0], counts[1], counts[2]);
