@@ -2,6 +2,10 @@
 #ifndef TLSF_RESOURCE_HPP
 #define TLSF_RESOURCE_HPP
 
+// Behind a tlsf.h of compat/ some names of peachanchor.h are macros, which lead elsewhere.
+#ifdef TLSF_COMPAT
+#error "tlsf_resource.hpp comes before a tlsf.h of compat/"
+#endif
 #include "tlsf.hpp"
 
 #include <memory_resource>
