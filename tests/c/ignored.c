@@ -1,4 +1,4 @@
-/* With IGNORED from 1 to 16 an answer that has to be looked at isn't: a compiler warns of that, in C and in C++. Of one that is cast to
+/* With IGNORED from 1 to 19 an answer that has to be looked at isn't: a compiler warns of that, in C and in C++. Of one that is cast to
  * void it doesn't. The headers are read as after windows.h, which has these words. */
 #define near
 #define far
@@ -9,6 +9,7 @@
 
 #include "tlsf_cache.h"
 #include "tlsf_locked.h"
+#include "tlsf_parts.h"
 
 #ifndef IGNORED
 #define IGNORED 0
@@ -21,6 +22,7 @@ uint32_t give(struct tlsf_heap *heap, struct tlsf_name *name, void *memory) {
     void *p = memory;
     struct tlsf_cache cache = TLSF_CACHE_CLOSED;
     struct tlsf_locked locked = TLSF_LOCKED_CLOSED;
+    struct tlsf_parts parts = TLSF_PARTS_CLOSED;
 #if IGNORED == 1
     tlsf_allocate(heap, 8, name);
 #elif IGNORED == 2
@@ -53,6 +55,12 @@ uint32_t give(struct tlsf_heap *heap, struct tlsf_name *name, void *memory) {
     tlsf_locked_malloc(&locked, 8);
 #elif IGNORED == 16
     tlsf_locked_allocate(&locked, 8, name);
+#elif IGNORED == 17
+    tlsf_aligned_realloc(heap, p, 64, 8);
+#elif IGNORED == 18
+    tlsf_parts_add(&parts, memory, 4096);
+#elif IGNORED == 19
+    tlsf_parts_malloc(&parts, 8);
 #endif
     /* What is cast to void may be ignored, */
     (void)tlsf_allocate(heap, 8, name);
@@ -69,6 +77,10 @@ uint32_t give(struct tlsf_heap *heap, struct tlsf_name *name, void *memory) {
     tlsf_locked_free(&locked, TLSF_NULL);
     tlsf_locked_release(&locked, *name);
     tlsf_locked_close(&locked);
+    tlsf_parts_free(&parts, TLSF_NULL);
+    tlsf_parts_release(&parts, *name);
+    tlsf_parts_remove(&parts, memory);
+    tlsf_parts_close(&parts);
     tlsf_close(heap);
     return tlsf_allocate(heap, 8, name);
 }
